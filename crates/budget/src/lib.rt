@@ -1,0 +1,1 @@
+// Budget rules: may this job have one more tick?
