@@ -4,3 +4,6 @@ pub mod Refusals
 pub mod Tasks
 pub mod Verdict
 pub mod Accepted
+pub mod Parts
+pub mod Tables
+pub mod Readers

@@ -99,6 +99,9 @@ high-fault t = unless (passes (t .high)) (HighTest (t .high))
 abbrev pub shape-faults : Draft → List (Option TableRefusal)
 shape-faults d = count-fault (d .count) ∷ scale-fault (d .scale) ∷ factor-fault (d .factor) ∷ total-fault (d .total) ∷ tasks-fault (d .scale) (Some (d .factor)) (d .count) (d .task) ∷ []
 
+abbrev pub shape-fault : Draft → Option TableRefusal
+shape-fault d = first-of (shape-faults d)
+
 -- the first refusal that applies; none where the table is accepted
 abbrev pub verdict : Draft → Option TableRefusal
 verdict d = first-of (shape-faults d ++ (low-fault (tests-of d) ∷ high-fault (tests-of d) ∷ []))

@@ -1,5 +1,10 @@
 // Tables of tasks: a table that exists has passed every test.
+pub mod accept;
 pub mod checks;
+pub mod figures;
+pub mod part;
+pub mod readers;
 pub mod refusal;
+pub mod table;
 pub mod task;
 pub mod units;
