@@ -1,1 +1,7 @@
 pub mod Meaning
+pub mod Weights
+pub mod Slots
+pub mod Rules
+pub mod OfRules
+pub mod Refusals
+pub mod Making

@@ -2,5 +2,5 @@ pub mod Firsts
 pub mod Sums
 pub mod Accepted
 pub mod Parts
-pub mod Slots
+pub mod Filled
 pub mod Tables

@@ -1,0 +1,5 @@
+pub mod Slots
+pub mod Loads
+pub mod Weights
+pub mod Budgets
+pub mod Tallies
