@@ -6,9 +6,9 @@ use native.Mathlib.Decide.{decLe}
 use native.Mathlib.Nat.{div-mul-le-self, div-lt-iff-lt-mul, mul-comm, mul-le-mul-left, max-eq-left, max-eq-right, le-max-right}
 use native.Mathlib.Omega.{arith}
 use lib.Dec.{eqb, leb, ltb}
-use Rattle.std.proofs.shelf.Tests.{leb-true, eq-eqb, ne-eqb, le-leb, lt-leb, lt-ltb, le-ltb, cond-true, cond-false}
+use Rattle.std.proofs.shelf.Tests.{leb-true, ltb-true, eq-eqb, ne-eqb, le-leb, lt-leb, lt-ltb, le-ltb, cond-true, cond-false}
 use Rattle.budget.specs.Meaning.{load, raised}
-use Rattle.budget.specs.Rules.{shared-says, shared-budget, others}
+use Rattle.budget.specs.Rules.{shared-says, shared-budget, fixed-says, others}
 use Rattle.budget.proofs.Loads.{load-kept, load-raised}
 
 -- beside others o of a total b, the task with weight w and longest run l may run to (b - o) / w
@@ -75,3 +75,11 @@ shared-fits w b l i r e = by (eqb (w i) 0) e
     by : (z : Bool) → cond z false (leb (load w (raised l i r)) b) ≡ true → load w (raised l i r) ≤ b
     by true q = let o : _≡_ {A = ℕ} 0 1 = cc in absurd (omega arith)
     by false q = leb-true (load w (raised l i r)) b q
+
+-- a yes of the fixed rule is below the budget
+pub fixed-below : (w c : ℕ → ℕ) (i r : ℕ) → fixed-says w c i r ≡ true → r < c i
+fixed-below w c i r e = by (eqb (w i) 0) e
+  where
+    by : (z : Bool) → cond z false (ltb r (c i)) ≡ true → r < c i
+    by true q = let o : _≡_ {A = ℕ} 0 1 = cc in absurd (omega arith)
+    by false q = ltb-true r (c i) q

@@ -3,3 +3,4 @@ pub mod Loads
 pub mod Weights
 pub mod Budgets
 pub mod Tallies
+pub mod Making

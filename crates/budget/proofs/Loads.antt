@@ -3,7 +3,8 @@ use mathlib.Core.Path.{_≡_, refl, sym, ap, _∙_}
 use mathlib.Core.Bool.{Bool, true, false, cond}
 use mathlib.Core.Logic.{_≢_}
 use Prim.Native.Nat.{ℕ, zero, suc, _+_, _-_, _*_, _≤_, _<_, max}
-use native.Mathlib.Nat.{zero-mul, mul-zero}
+use native.Mathlib.Nat.{zero-mul, mul-zero, mul-le-mul-left, max-le}
+use native.Mathlib.Decide.{ℕ-discrete}
 use native.Mathlib.Omega.{arith}
 use lib.Dec.{eqb}
 use Rattle.std.proofs.shelf.Tests.{eq-eqb, ne-eqb, cond-true, cond-false}
@@ -65,3 +66,19 @@ load-same w v l m e f = sum-same 32 _ _ (λ k h. rw (e (suc k), f (suc k)))
 
 pub load-rested : (w l : ℕ → ℕ) → ((i : ℕ) → l i ≡ 0) → load w l ≡ 0
 load-rested w l e = sum-zeros 32 _ (λ k h. rw (e (suc k)) (mul-zero (w (suc k))))
+
+-- longer runs make a larger load
+pub load-below : (w l m : ℕ → ℕ) → ((i : ℕ) → l i ≤ m i) → load w l ≤ load w m
+load-below w l m h = sum-below 32 _ _ (λ k l. mul-le-mul-left (w (suc k)) (h (suc k)))
+
+-- runs within limits stay so when one is raised below its limit
+pub raised-within : (l c : ℕ → ℕ) (i r : ℕ) → ((k : ℕ) → l k ≤ c k) → r < c i → (k : ℕ) → raised l i r k ≤ c k
+raised-within l c i r h low k =
+    elim (ℕ-discrete k i) [
+      | yes e ↦ rw e (rw (cond-true (eqb i i) (max (l i) (r + 1)) (l i) (eq-eqb i i refl)) (max-le (h i) (omega arith)))
+      | no ne ↦ rw (cond-false (eqb k i) (max (l k) (r + 1)) (l k) (ne-eqb k i ne)) (h k)
+    ]
+
+-- tasks past the count add nothing
+pub load-counted : (w l : ℕ → ℕ) (n : ℕ) → n ≤ 32 → ((k : ℕ) → n ≤ k → w (suc k) ≡ 0) → sum n (λ k. w (suc k) * l (suc k)) ≡ load w l
+load-counted w l n h e = sym (sum-tail 32 n _ h (λ k m. rw (e k m) (zero-mul (l (suc k)))))

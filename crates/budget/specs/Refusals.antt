@@ -9,20 +9,20 @@ use Rattle.budget.specs.declared.refusal.CeilingRefusal.the-variants.{Count as
 
 abbrev pub fixed-number : FixedRefusal → ℕ
 fixed-number (Count n m) = 15
-fixed-number (LowTask i c) = 15
-fixed-number (TooLarge i c) = 16
+fixed-number (LowTask x) = 15
+fixed-number (TooLarge x) = 16
 fixed-number (OverTotal s b) = 17
 
 abbrev pub fixed-task : FixedRefusal → Option ℕ
 fixed-task (Count n m) = None
-fixed-task (LowTask i c) = Some i
-fixed-task (TooLarge i c) = Some i
+fixed-task (LowTask x) = Some (x .task)
+fixed-task (TooLarge x) = Some (x .task)
 fixed-task (OverTotal s b) = None
 
 abbrev pub ceiling-number : CeilingRefusal → ℕ
 ceiling-number (CeilingCount n m) = 18
-ceiling-number (CeilingLarge i c) = 18
+ceiling-number (CeilingLarge x) = 18
 
 abbrev pub ceiling-task : CeilingRefusal → Option ℕ
 ceiling-task (CeilingCount n m) = None
-ceiling-task (CeilingLarge i c) = Some i
+ceiling-task (CeilingLarge x) = Some (x .task)

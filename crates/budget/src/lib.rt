@@ -1,4 +1,7 @@
 // Budget rules: may this job have one more tick?
+pub mod fixed;
+pub mod fixed_rule;
+mod lists;
 pub mod refusal;
 pub mod rule;
 pub mod shared;

@@ -7,14 +7,21 @@ use table::units::Ticks;
 use table::units::TicksDebug;
 use table::units::TicksPartialEq;
 
+// A number of a list that is not allowed, and its task.
+#[derive(Clone, Copy, PartialEq, Eq, Debug)]
+pub struct Excess {
+    pub task: u32,
+    pub ticks: Ticks,
+}
+
 // Why budgets are not a fixed rule of a table, with the values that did not pass.
 #[derive(Clone, Copy, PartialEq, Eq, Debug)]
 pub enum FixedRefusal {
     // so many budgets for so many tasks
     Count(usize, usize),
     // a low task has a budget
-    LowTask(u32, Ticks),
-    TooLarge(u32, Ticks),
+    LowTask(Excess),
+    TooLarge(Excess),
     // the weighted sum of the budgets, and the total
     OverTotal(Shares, Shares),
 }
@@ -26,8 +33,8 @@ impl FixedRefusal {
     {
         match self {
             FixedRefusal::Count(_, _) => 15,
-            FixedRefusal::LowTask(_, _) => 15,
-            FixedRefusal::TooLarge(_, _) => 16,
+            FixedRefusal::LowTask(_) => 15,
+            FixedRefusal::TooLarge(_) => 16,
             FixedRefusal::OverTotal(_, _) => 17,
         }
     }
@@ -37,8 +44,8 @@ impl FixedRefusal {
         ensures { λ r. ⌜ r ≡ fixed-task (now (self .entry)) ⌝ }
     {
         match self {
-            FixedRefusal::LowTask(task, _) => Some(*task),
-            FixedRefusal::TooLarge(task, _) => Some(*task),
+            FixedRefusal::LowTask(excess) => Some(excess.task),
+            FixedRefusal::TooLarge(excess) => Some(excess.task),
             _ => None,
         }
     }
@@ -49,7 +56,7 @@ impl FixedRefusal {
 pub enum CeilingRefusal {
     // so many ceilings for so many tasks
     Count(usize, usize),
-    TooLarge(u32, Ticks),
+    TooLarge(Excess),
 }
 
 impl CeilingRefusal {
@@ -59,7 +66,7 @@ impl CeilingRefusal {
     {
         match self {
             CeilingRefusal::Count(_, _) => 18,
-            CeilingRefusal::TooLarge(_, _) => 18,
+            CeilingRefusal::TooLarge(_) => 18,
         }
     }
 
@@ -69,7 +76,7 @@ impl CeilingRefusal {
     {
         match self {
             CeilingRefusal::Count(_, _) => None,
-            CeilingRefusal::TooLarge(task, _) => Some(*task),
+            CeilingRefusal::TooLarge(excess) => Some(excess.task),
         }
     }
 }

@@ -3,8 +3,7 @@ ghost use Prim.Native.Nat.{ℕ, _≤_};
 ghost use lib.Dec.{ltb};
 ghost use Rattle.table.specs.Tables.{draft-of};
 ghost use Rattle.budget.specs.Meaning.{Meaning};
-ghost use Rattle.budget.specs.OfRules.{weights-of, longest-of, meaning-of-shared, budget-of-shared};
-ghost use Rattle.budget.specs.Weights.{rule-weight};
+ghost use Rattle.budget.specs.OfRules.{New-of, meaning-of-shared, budget-of-shared};
 use super::rule::Metered;
 use super::rule::Rule;
 use super::shared::Shared;
@@ -16,7 +15,7 @@ use table::units::Ticks;
 impl Shared {
     // The shared rule of a table, at rest.
     pub fn new(table: &Table) -> Shared
-        ensures { λ r. ⌜ ((i : ℕ) → meaning-of-shared r .weight i ≡ rule-weight (draft-of (now (table .entry))) i) × (meaning-of-shared r .total ≡ draft-of (now (table .entry)) .total .0) × ((i : ℕ) → meaning-of-shared r .longest i ≡ 0) ⌝ }
+        ensures { λ r. ⌜ New-of (draft-of (now (table .entry))) (meaning-of-shared r) ⌝ }
     {
         Shared {
             tally: Tally::new(table),

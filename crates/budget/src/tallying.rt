@@ -72,6 +72,19 @@ impl Tally {
         Shares(left)
     }
 
+    // The load that these runs would make.
+    pub(crate) fn load_of(&self, runs: &[Ticks; 32]) -> Shares
+        requires weights { ⌜ ((i : ℕ) → weights-of (now self) i ≤ 1000000) ⌝ }
+        requires runs { ⌜ ((i : ℕ) → ticks-in (now runs) i ≤ 100000) ⌝ }
+        ensures { λ r. ⌜ r .0 ≡ load (weights-of (now (self .entry))) (ticks-in (now (runs .entry))) ⌝ }
+    {
+        let mut sum = 0;
+        for k in 0..self.count {
+            sum += self.weights[k].0 * runs[k].0;
+        }
+        Shares(sum)
+    }
+
     // The task's weight.
     pub(crate) fn weight(&self, task: u32) -> Shares
         ensures { λ r. ⌜ r .0 ≡ weights-of (now (self .entry)) task ⌝ }

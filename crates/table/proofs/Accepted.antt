@@ -22,11 +22,11 @@ use Rattle.table.specs.Accepted.{Sound, Accepted}
 use Rattle.table.proofs.Firsts.{none-first, none-second, none-both, first-below-at, first-below-all, first-of-append}
 
 -- a test passes exactly where there is no refusal
-unless-none : {A : Type 0} (b : Bool) (r : A) → unless b r ≡ None → b ≡ true
+pub unless-none : {A : Type 0} (b : Bool) (r : A) → unless b r ≡ None → b ≡ true
 unless-none true r e = refl
 unless-none false r e = let z : _≡_ {A = ℕ} 0 1 = cc in absurd (omega arith)
 
-none-unless : {A : Type 0} (b : Bool) (r : A) → b ≡ true → unless b r ≡ None
+pub none-unless : {A : Type 0} (b : Bool) (r : A) → b ≡ true → unless b r ≡ None
 none-unless b r e = rw e
 
 range-low : (a b n : ℕ) → in-range a b n ≡ true → a ≤ n

@@ -61,3 +61,12 @@ or-else-swap (Some a) y z = refl
 pub first-of-append : {A : Type 0} (xs ys : List (Option A)) → first-of (xs ++ ys) ≡ or-else (first-of xs) (first-of ys)
 first-of-append [] ys = refl
 first-of-append (x ∷ xs) ys = ap (or-else x) (first-of-append xs ys) ∙ sym (or-else-swap x (first-of xs) (first-of ys))
+
+-- a search that found nothing below i goes on past i, or ends there
+pub first-below-next : {A : Type 0} (i : ℕ) (f : ℕ → Option A) → first-below i f ≡ None → f i ≡ None → first-below (i + 1) f ≡ None
+first-below-next i f e h = first-below-more i f ∙ none-both (first-below i f) (f i) e h
+
+pub first-below-here : {A : Type 0} (n i : ℕ) (f : ℕ → Option A) (a : A) → i < n → first-below i f ≡ None → f i ≡ Some a → first-below n f ≡ Some a
+first-below-here n i f a l e h =
+    let up : i + 1 ≤ n = omega arith in
+    first-below-stays n (i + 1) f a up (first-below-more i f ∙ rw e h)
