@@ -7,8 +7,8 @@ use native.Mathlib.Nat.{div-mul-le-self, div-lt-iff-lt-mul, mul-comm, mul-le-mul
 use native.Mathlib.Omega.{arith}
 use lib.Dec.{eqb, leb, ltb}
 use Rattle.std.proofs.shelf.Tests.{leb-true, ltb-true, eq-eqb, ne-eqb, le-leb, lt-leb, lt-ltb, le-ltb, cond-true, cond-false}
-use Rattle.budget.specs.Meaning.{load, raised}
-use Rattle.budget.specs.Rules.{shared-says, shared-budget, fixed-says, others}
+use Rattle.budget.specs.Meaning.{load, raised, Shared-yes}
+use Rattle.budget.specs.Rules.{shared-says, shared-meaning, shared-budget, fixed-says, others}
 use Rattle.budget.proofs.Loads.{load-kept, load-raised}
 
 -- beside others o of a total b, the task with weight w and longest run l may run to (b - o) / w
@@ -83,3 +83,7 @@ fixed-below w c i r e = by (eqb (w i) 0) e
     by : (z : Bool) → cond z false (ltb r (c i)) ≡ true → r < c i
     by true q = let o : _≡_ {A = ℕ} 0 1 = cc in absurd (omega arith)
     by false q = ltb-true r (c i) q
+
+-- the shared rule says yes exactly where the task has a weight and the raised load fits
+pub shared-exact : (w : ℕ → ℕ) (b : ℕ) (l : ℕ → ℕ) → Shared-yes (shared-meaning w b l)
+shared-exact w b l i r = (shared-fits w b l i r, λ pos fit. cond-false (eqb (w i) 0) false _ (ne-eqb (w i) 0 (λ z. omega arith)) ∙ le-leb _ b fit)

@@ -76,7 +76,7 @@ pub impl Rule for Fixed as FixedRule {
     ghost meaning = { meaning-of-fixed };
 
     fn ask(&self, task: u32, run: Ticks) -> bool {
-        run.0 < self.allowed(task).0
+        self.allowed(task).0 > run.0
     }
 
     fn grant(&mut self, task: u32, run: Ticks) -> bool {

@@ -1,4 +1,5 @@
 // Budget rules: may this job have one more tick?
+pub mod ceiling;
 pub mod fixed;
 pub mod fixed_rule;
 mod lists;

@@ -39,7 +39,7 @@ pub impl Rule for Shared as SharedRule {
     ghost meaning = { meaning-of-shared };
 
     fn ask(&self, task: u32, run: Ticks) -> bool {
-        run.0 < self.spare(task).0
+        self.spare(task).0 > run.0
     }
 
     fn grant(&mut self, task: u32, run: Ticks) -> bool {
