@@ -26,6 +26,7 @@ pub struct Ceiling<R> {
 }
 
 // A refused ceiling, and the rule that it was to stand over.
+#[derive(Clone, Copy)]
 pub struct CeilingRefused<R> {
     pub rule: R,
     pub refusal: CeilingRefusal,

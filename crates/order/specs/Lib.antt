@@ -1,1 +1,4 @@
 pub mod Orders
+pub mod Ties
+pub mod Bits
+pub mod Choice

@@ -1,0 +1,4 @@
+pub mod Keys
+pub mod Bits
+pub mod Chosen
+pub mod Looked
