@@ -35,6 +35,13 @@ fn rule_weights(table: &Table) -> [Shares; 32]
     weights
 }
 
+// The longest runs after a rest.
+fn no_runs() -> [Ticks; 32]
+    ensures { λ r. ⌜ ((i : ℕ) → ticks-in r i ≡ 0) ⌝ }
+{
+    [Ticks(0); 32]
+}
+
 impl Tally {
     // The tally of a table at rest.
     pub(crate) fn new(table: &Table) -> Tally
@@ -43,7 +50,7 @@ impl Tally {
         Tally {
             count: table.count() as usize,
             weights: rule_weights(table),
-            longest: [Ticks(0); 32],
+            longest: no_runs(),
             total: table.total(),
         }
     }
@@ -112,7 +119,7 @@ impl Tally {
         ensures same { λ _. ⌜ (now (self .exit) .count ≡ now (self .entry) .count) × (now (self .exit) .weights ≡ now (self .entry) .weights) × (now (self .exit) .total ≡ now (self .entry) .total) ⌝ }
         ensures longest { λ _. ⌜ ((k : ℕ) → longest-of (now (self .exit)) k ≡ 0) ⌝ }
     {
-        let none = [Ticks(0); 32];
+        let none = no_runs();
         self.longest = none;
     }
 }

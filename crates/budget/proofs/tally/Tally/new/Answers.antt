@@ -4,7 +4,6 @@ use Prim.Native.Nat.{suc}
 use native.Mathlib.Omega.{arith}
 use Rattle.table.specs.Tables.{draft-of}
 use Rattle.table.proofs.Tables.{table-accepted}
-use Rattle.budget.proofs.Slots.{ticks-none}
 use Rattle.budget.proofs.Weights.{rule-weight-past}
 use Rattle.budget.proofs.tally.Tally.new.Needs as need
 
@@ -16,4 +15,4 @@ ghost-result c =
     )
 
 pub returns : need.returns
-returns c = (c .rule-weights .ensures, c .total .ensures, ticks-none, c .count .ensures)
+returns c = (c .rule-weights .ensures, c .total .ensures, c .no-runs .ensures, c .count .ensures)
