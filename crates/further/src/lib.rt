@@ -73,7 +73,11 @@ mod tests {
     // One low task and two high ones; the total is given.
     fn press(total: u64) -> Result<Table, Fail> {
         let low = Criticality::Low { assured: Ticks(0) };
-        let tasks = [task(10, 5, low), task(10, 4, Criticality::High), task(10, 4, Criticality::High)];
+        let tasks = [
+            task(10, 5, low),
+            task(10, 4, Criticality::High),
+            task(10, 4, Criticality::High),
+        ];
         match Table::accept(Shares(10), Shares(total), Factor { p: 2, q: 5 }, &tasks) {
             Ok(table) => Ok(table),
             Err(_) => Err(Fail::new("refused")),
@@ -82,7 +86,12 @@ mod tests {
 
     // One high task with the largest weight that there is.
     fn heavy() -> Result<Table, Fail> {
-        match Table::accept(Shares(1_000_000), Shares(1_000_000), Factor { p: 1, q: 1 }, &[task(1, 1, Criticality::High)]) {
+        match Table::accept(
+            Shares(1_000_000),
+            Shares(1_000_000),
+            Factor { p: 1, q: 1 },
+            &[task(1, 1, Criticality::High)],
+        ) {
             Ok(table) => Ok(table),
             Err(_) => Err(Fail::new("refused")),
         }
@@ -91,7 +100,16 @@ mod tests {
     #[test]
     fn shared_at_its_edges() -> Result<(), Fail> {
         let mut rule = Shared::new(&press(2)?);
-        for (number, budget) in [(0, 0), (1, 0), (2, 2), (3, 2), (4, 0), (32, 0), (33, 0), (u32::MAX, 0)] {
+        for (number, budget) in [
+            (0, 0),
+            (1, 0),
+            (2, 2),
+            (3, 2),
+            (4, 0),
+            (32, 0),
+            (33, 0),
+            (u32::MAX, 0),
+        ] {
             check_eq(rule.budget(number).0, budget)?;
             check_eq(rule.ask(number, Ticks(0)), budget > 0)?;
             check(!rule.ask(number, Ticks(u64::MAX)))?;
@@ -152,14 +170,22 @@ mod tests {
     #[test]
     fn ceilings() -> Result<(), Fail> {
         let table = press(2)?;
-        let lists: [&[Ticks]; 3] = [&[Ticks(9), Ticks(9)], &[Ticks(9), Ticks(9), Ticks(9), Ticks(9)], &[Ticks(0), Ticks(0), Ticks(100_001)]];
+        let lists: [&[Ticks]; 3] = [
+            &[Ticks(9), Ticks(9)],
+            &[Ticks(9), Ticks(9), Ticks(9), Ticks(9)],
+            &[Ticks(0), Ticks(0), Ticks(100_001)],
+        ];
         for list in lists {
             match Ceiling::new(&table, Shared::new(&table), list) {
                 Ok(_) => return Err(Fail::new("made")),
                 Err(refused) => check_eq(refused.refusal.number(), 18)?,
             }
         }
-        match Ceiling::new(&table, Shared::new(&table), &[Ticks(100_000), Ticks(1), Ticks(0)]) {
+        match Ceiling::new(
+            &table,
+            Shared::new(&table),
+            &[Ticks(100_000), Ticks(1), Ticks(0)],
+        ) {
             Ok(mut rule) => {
                 for (number, budget) in [(0, 0), (1, 0), (2, 1), (3, 0), (33, 0)] {
                     check_eq(rule.budget(number).0, budget)?;

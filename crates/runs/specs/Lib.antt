@@ -1,0 +1,14 @@
+pub mod Numbers
+pub mod States
+pub mod Slots
+pub mod Masks
+pub mod Choices
+pub mod Arrivals
+pub mod Ticking
+pub mod Laws
+pub mod Logs
+pub mod Produced
+pub mod Agreement
+pub mod Bounds
+pub mod Programs
+pub mod Examples
