@@ -1,8 +1,8 @@
 // Tables of tasks: a table that exists has passed every test.
 pub mod accept;
-pub mod checks;
+mod checks;
 pub mod figures;
-pub mod part;
+mod part;
 pub mod readers;
 pub mod refusal;
 pub mod table;
