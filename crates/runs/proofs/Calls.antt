@@ -4,16 +4,18 @@ use mathlib.Core.Bool.{Bool, true, false, cond}
 use mathlib.Core.List.{List, [], _∷_}
 use Prim.Native.Nat.{ℕ, _<_}
 use native.Mathlib.Omega.{arith}
-use lib.Dec.{leb, ltb}
+use lib.Dec.{leb, eqb}
 use lib.ListN.{length}
-use Rattle.std.proofs.shelf.Tests.{both-ways, leb-true, le-leb, lt-leb, lt-ltb, le-ltb, and-parts, and-from, and-left, and-right, cond-false}
+use Rattle.std.proofs.shelf.Tests.{both-ways, lt-leb, and-left, and-right, eq-eqb, cond-true, cond-false}
 use Rattle.std.specs.declared.option.Option.{Option}
 use Rattle.std.specs.declared.option.Option.the-variants.{Some, None}
 use Rattle.std.specs.declared.result.Result.{Result}
 use Rattle.table.specs.Verdict.{Draft}
 use Rattle.table.specs.Accepted.{Accepted}
 use Rattle.order.specs.Orders.{Ahead, Tie-laws}
-use Rattle.budget.specs.Meaning.{Meaning, load, raised, Granted, Rested}
+use Rattle.budget.specs.Meaning.{Meaning, raised, Granted, Rested}
+use Rattle.budget.specs.Rules.{shared-meaning}
+use Rattle.budget.proofs.Budgets.{shared-fits, shared-exact}
 use Rattle.runs.specs.declared.call.Call.{Call}
 use Rattle.runs.specs.declared.call.Call.the-variants.{Arrive as ArriveCall, Tick as TickCall}
 use Rattle.runs.specs.declared.call.Mark.{Mark}
@@ -26,7 +28,7 @@ use Rattle.runs.specs.Arrivals.{arrival, after-arrival}
 use Rattle.runs.specs.Ticking.{tick-fault, asked, outcome, tick, after-tick, Asked, Let-rest, Consulted, rule-after-by}
 use Rattle.runs.specs.Laws.{Arrived, Ticked}
 use Rattle.runs.specs.Produced.{Kind, exact, Keeps, Follows, Produced}
-use Rattle.runs.specs.Programs.{Defined-making, Defined-arrivals, Defined-ticks, Program, Obeys, asked-meaning, rested-meaning, meaning-by, meaning-after, Standing, answered, play, Played, Total, sharing, shared-program, shared-rule, Shared-stands}
+use Rattle.runs.specs.Programs.{Defined-making, Defined-arrivals, Defined-ticks, Program, Obeys, asked-meaning, rested-meaning, meaning-by, meaning-after, Standing, answered, play, Played, Total, shared-program, shared-rule, Shared-stands}
 use Rattle.runs.proofs.Keeps.{Sane}
 use Rattle.runs.proofs.Ages.{age-bound, produced-sane, follows-keeps}
 use Rattle.runs.proofs.Choosing.{Seated}
@@ -138,17 +140,14 @@ total kind d ok ahead laws p obeys m keeps zeros calls =
 
 -- the shared rule
 
-sharing-keeps : (w : ℕ → ℕ) (b : ℕ) (l : ℕ → ℕ) → w 0 ≡ 0 → ((i : ℕ) → 32 < i → w i ≡ 0) → Keeps exact (sharing w b l)
+sharing-keeps : (w : ℕ → ℕ) (b : ℕ) (l : ℕ → ℕ) → w 0 ≡ 0 → ((i : ℕ) → 32 < i → w i ≡ 0) → Keeps exact (shared-meaning w b l)
 sharing-keeps w b l zeroth above = record {
   law = record {
     bounded = record { zeroth = zeroth; above = above };
-    silent = λ i run e. and-left (ltb 0 (w i)) (leb (load w (raised l i run)) b) (le-ltb 0 (w i) (omega arith));
-    fits = λ i run e. leb-true (load w (raised l i run)) b (and-parts (ltb 0 (w i)) (leb (load w (raised l i run)) b) e .1);
+    silent = λ i run e. cond-true (eqb (w i) 0) false _ (eq-eqb (w i) 0 e);
+    fits = shared-fits w b l;
   };
-  exactly = λ i run. (
-    λ e. leb-true (load w (raised l i run)) b (and-parts (ltb 0 (w i)) (leb (load w (raised l i run)) b) e .1),
-    λ some fits. and-from (ltb 0 (w i)) (leb (load w (raised l i run)) b) (lt-ltb 0 (w i) some) (le-leb (load w (raised l i run)) b fits),
-  );
+  exactly = shared-exact w b l;
 }
 
 -- a grant that raises one longest run on yes and alters nothing on no
@@ -157,13 +156,13 @@ pub granted-by : (m n : Meaning) (i run : ℕ) (b : Bool) → m .yes i run ≡ b
 granted-by m n i run true e w t l = record { said = sym e; weights = w; total = t; longest = l; denied = λ q. absurd (both-ways true q refl) }
 granted-by m n i run false e w t l = record { said = sym e; weights = λ k. refl; total = refl; longest = λ k. refl; denied = λ q. refl }
 
-keeps-by : (m : Meaning) (i run : ℕ) (b : Bool) → Keeps exact m → Keeps exact (cond b (sharing (m .weight) (m .total) (raised (m .longest) i run)) m)
+keeps-by : (m : Meaning) (i run : ℕ) (b : Bool) → Keeps exact m → Keeps exact (cond b (shared-meaning (m .weight) (m .total) (raised (m .longest) i run)) m)
 keeps-by m i run true k = sharing-keeps (m .weight) (m .total) (raised (m .longest) i run) (k .law .bounded .zeroth) (k .law .bounded .above)
 keeps-by m i run false k = k
 
 pub shared-obeys : Obeys exact shared-program
 shared-obeys = record {
-  granted = λ k m keeps i run. granted-by m (sharing (m .weight) (m .total) (raised (m .longest) i run)) i run (m .yes i run) refl (λ k. refl) refl (λ k. refl);
+  granted = λ k m keeps i run. granted-by m (shared-meaning (m .weight) (m .total) (raised (m .longest) i run)) i run (m .yes i run) refl (λ k. refl) refl (λ k. refl);
   grant-keeps = λ k m keeps i run. keeps-by m i run (m .yes i run) keeps;
   rested = λ k m keeps. record { weights = λ i. refl; total = refl; longest = λ i. refl };
   rest-keeps = λ k m keeps. sharing-keeps (m .weight) (m .total) (λ i. 0) (keeps .law .bounded .zeroth) (keeps .law .bounded .above);

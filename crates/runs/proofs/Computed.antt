@@ -4,18 +4,21 @@ use mathlib.Core.Bool.{Bool, true, false, cond, not}
 use mathlib.Core.List.{List}
 use mathlib.Core.Logic.{_⊎_, inl, inr, ⊎-elim}
 use Prim.Native.Nat.{ℕ, zero, suc, _*_, _≤_, _<_}
-use native.Mathlib.Nat.{mul-le-mul-left}
 use native.Mathlib.Omega.{arith}
-use native.Mathlib.Decide.{ℕ-discrete, decLe}
-use lib.Dec.{ltb, lit≤}
-use Rattle.std.proofs.shelf.Tests.{both-ways, lt-ltb, le-ltb, ltb-true, ltb-false, eq-eqb, ne-eqb, and-parts, and-left, cases-order}
+use native.Mathlib.Decide.{decLe}
+use lib.Dec.{ltb, eqb, lit≤}
+use Rattle.std.proofs.shelf.Tests.{both-ways, lt-ltb, le-ltb, ltb-true, ltb-false, eq-eqb, cases-order, cond-true}
 use Rattle.table.specs.Sums.{sum}
 use Rattle.table.specs.Firsts.{first-below}
 use Rattle.table.specs.Verdict.{Draft}
 use Rattle.table.specs.Accepted.{Accepted}
 use Rattle.table.proofs.Accepted.{accepted}
 use Rattle.order.specs.Orders.{Tie-laws}
+use Rattle.order.specs.Ties.{by-number}
 use Rattle.budget.specs.Meaning.{Meaning, load, raised, Bounded}
+use Rattle.budget.specs.Rules.{fixed-says}
+use Rattle.budget.proofs.Budgets.{fixed-below}
+use Rattle.budget.proofs.Loads.{load-below, raised-within}
 use Rattle.runs.specs.declared.call.Call.{Call}
 use Rattle.runs.specs.States.{rule-weight}
 use Rattle.runs.specs.Masks.{mask, in-mask}
@@ -23,7 +26,7 @@ use Rattle.runs.specs.Choices.{first-choice}
 use Rattle.runs.specs.Logs.{clock, since, switched-in, before-switch, switch-clock}
 use Rattle.runs.specs.Produced.{lawful, exact, Keeps}
 use Rattle.runs.specs.Programs.{Played, play, shared-program, shared-rule}
-use Rattle.runs.specs.Examples.{by-number, fixed-yes, fixed-program, fixed-rule, whole, three-ticks, Age-met, three, budgets, two-ticks, Shared-outlasts, assured, five-ticks, Short-end}
+use Rattle.runs.specs.Examples.{fixed-program, fixed-rule, whole, three-ticks, Age-met, three, budgets, two-ticks, Shared-outlasts, assured, five-ticks, Short-end}
 use Rattle.runs.proofs.Calls.{granted-by, play-good, total, shared-obeys, shared-stands}
 
 -- the order
@@ -76,38 +79,20 @@ by-number-laws = record {
 
 -- the fixed rule
 
-sum-le : (n : ℕ) (f g : ℕ → ℕ) → ((k : ℕ) → k < n → f k ≤ g k) → sum n f ≤ sum n g
-unfolding sum
-sum-le zero f g h = omega arith
-sum-le (suc n) f g h = omega (arith, sum-le n f g (λ k l. h k (omega arith)), h n (omega arith))
-
 record Holds (budget : ℕ → ℕ) (m : Meaning) : Type 0 where
   bounded : Bounded m
-  yes-is : (i run : ℕ) → m .yes i run ≡ fixed-yes (m .weight) budget i run
+  yes-is : (i run : ℕ) → m .yes i run ≡ fixed-says (m .weight) budget i run
   within : (i : ℕ) → m .longest i ≤ budget i
   funded : load (m .weight) budget ≤ m .total
-
-raised-within : (l budget : ℕ → ℕ) (i run : ℕ) → ((k : ℕ) → l k ≤ budget k) → run < budget i → (k : ℕ) → raised l i run k ≤ budget k
-raised-within l budget i run h lt k =
-    elim (ℕ-discrete k i) [
-      | yes e ↦ rw (e, eq-eqb i i refl) (omega (arith, h i))
-      | no ne ↦ rw (ne-eqb k i ne) (h k)
-    ]
 
 holds-law : (budget : ℕ → ℕ) (m : Meaning) → Holds budget m → Keeps lawful m
 holds-law budget m h = record {
   law = record {
     bounded = h .bounded;
-    silent = λ i run e. h .yes-is i run ∙ and-left (ltb 0 (m .weight i)) (ltb run (budget i)) (le-ltb 0 (m .weight i) (omega arith));
+    silent = λ i run e. h .yes-is i run ∙ cond-true (eqb (m .weight i) 0) false _ (eq-eqb (m .weight i) 0 e);
     fits = λ i run e.
-        let both = and-parts (ltb 0 (m .weight i)) (ltb run (budget i)) (sym (h .yes-is i run) ∙ e) in
-        let lt = ltb-true run (budget i) (both .1) in
-        omega (
-          arith,
-          h .funded,
-          sum-le 32 (λ k. m .weight (suc k) * raised (m .longest) i run (suc k)) (λ k. m .weight (suc k) * budget (suc k))
-              (λ k l. mul-le-mul-left (m .weight (suc k)) (raised-within (m .longest) budget i run (h .within) lt (suc k))),
-        );
+        let lt = fixed-below (m .weight) budget i run (sym (h .yes-is i run) ∙ e) in
+        omega (arith, h .funded, load-below (m .weight) (raised (m .longest) i run) budget (raised-within (m .longest) budget i run (h .within) lt));
   };
   exactly = tt;
 }
@@ -115,11 +100,10 @@ holds-law budget m h = record {
 grant-holds : (budget : ℕ → ℕ) (m : Meaning) (i run : ℕ) → Holds budget m → (b : Bool) → m .yes i run ≡ b
     → Holds budget (cond b (record { weight = m .weight; total = m .total; longest = raised (m .longest) i run; yes = m .yes }) m)
 grant-holds budget m i run h true e =
-    let both = and-parts (ltb 0 (m .weight i)) (ltb run (budget i)) (sym (h .yes-is i run) ∙ e) in
     record {
       bounded = record { zeroth = h .bounded .zeroth; above = h .bounded .above };
       yes-is = h .yes-is;
-      within = raised-within (m .longest) budget i run (h .within) (ltb-true run (budget i) (both .1));
+      within = raised-within (m .longest) budget i run (h .within) (fixed-below (m .weight) budget i run (sym (h .yes-is i run) ∙ e));
       funded = h .funded;
     }
 grant-holds budget m i run h false e = h

@@ -1,6 +1,6 @@
 -- The theorems speak of something: runs in which each bound is met, by computation on the definitions.
 use mathlib.Core.Path.{_≡_}
-use mathlib.Core.Bool.{Bool, true, false, cond, _&&_}
+use mathlib.Core.Bool.{Bool, true, false, cond}
 use mathlib.Core.List.{List, [], _∷_, map}
 use Prim.Native.Nat.{ℕ, _-_}
 use lib.Dec.{ltb}
@@ -12,8 +12,10 @@ use Rattle.table.specs.declared.task.Criticality.the-variants.{High, Low}
 use Rattle.table.specs.Tasks.{ticks, shares}
 use Rattle.table.specs.Verdict.{Draft, drafted}
 use Rattle.table.specs.Accepted.{Accepted}
-use Rattle.order.specs.Orders.{Ahead, Tie-laws}
+use Rattle.order.specs.Orders.{Tie-laws}
+use Rattle.order.specs.Ties.{by-number}
 use Rattle.budget.specs.Meaning.{Meaning, raised}
+use Rattle.budget.specs.Rules.{fixed-meaning}
 use Rattle.runs.specs.declared.answer.Ending.the-variants.{Short}
 use Rattle.runs.specs.declared.answer.Mode.the-variants.{High as HighMode}
 use Rattle.runs.specs.declared.answer.Answer.{Answer}
@@ -27,20 +29,13 @@ use Rattle.runs.specs.Logs.{age, arrival, switch-clock, before-switch}
 use Rattle.runs.specs.Produced.{lawful, exact, Produced}
 use Rattle.runs.specs.Programs.{Program, shared-program, shared-rule, Standing, play}
 
--- by deadline, then number
-abbrev pub by-number : Ahead
-by-number a b = cond (ltb (a .deadline .0) (b .deadline .0)) true (cond (ltb (b .deadline .0) (a .deadline .0)) false (ltb (a .number) (b .number)))
-
 abbrev pub high-task : ℕ → ℕ → Task
 high-task T C = record { period = ticks T; worst = ticks C; criticality = High }
 
 abbrev pub low-task : ℕ → ℕ → ℕ → Task
 low-task T C g = record { period = ticks T; worst = ticks C; criticality = Low (ticks g) }
 
--- A rule with a budget for each task: yes exactly for a high task with run < budget.
-abbrev pub fixed-yes : (ℕ → ℕ) → (ℕ → ℕ) → ℕ → ℕ → Bool
-fixed-yes weight budget i run = ltb 0 (weight i) && ltb run (budget i)
-
+-- A rule with a budget for each task.
 abbrev pub fixed-program : Program
 fixed-program = record {
   grant = λ k m i run. cond (m .yes i run) (record { weight = m .weight; total = m .total; longest = raised (m .longest) i run; yes = m .yes }) m;
@@ -48,7 +43,7 @@ fixed-program = record {
 }
 
 abbrev pub fixed-rule : Draft → (ℕ → ℕ) → Meaning
-fixed-rule d budget = record { weight = rule-weight d; total = d .total .0; longest = λ i. 0; yes = fixed-yes (rule-weight d) budget }
+fixed-rule d budget = fixed-meaning (rule-weight d) (d .total .0) (λ i. 0) budget
 
 -- 1. A high task whose worst is its whole period, after three of its four ticks: its age is one less than the period.
 

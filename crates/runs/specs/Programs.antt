@@ -1,16 +1,16 @@
 -- Rules as functions, and the log that the definitions of one arrival and one tick give for a string of calls.
 use mathlib.Core.Path.{_≡_}
-use mathlib.Core.Bool.{Bool, true, false, cond, _&&_}
+use mathlib.Core.Bool.{Bool, true, false, cond}
 use mathlib.Core.List.{List, [], _∷_, map}
 use Prim.Native.Nat.{ℕ}
-use lib.Dec.{leb, ltb}
 use lib.ListN.{length}
 use Rattle.std.specs.declared.option.Option.{Option}
 use Rattle.std.specs.declared.option.Option.the-variants.{Some, None}
 use Rattle.table.specs.Verdict.{Draft}
 use Rattle.table.specs.Accepted.{Accepted}
 use Rattle.order.specs.Orders.{Ahead, Tie-laws}
-use Rattle.budget.specs.Meaning.{Meaning, load, raised, Granted, Rested}
+use Rattle.budget.specs.Rules.{shared-meaning}
+use Rattle.budget.specs.Meaning.{Meaning, raised, Granted, Rested}
 use Rattle.runs.specs.declared.call.Call.{Call}
 use Rattle.runs.specs.declared.call.Call.the-variants.{Arrive as ArriveCall, Tick as TickCall}
 use Rattle.runs.specs.declared.call.Mark.{Mark}
@@ -100,21 +100,15 @@ Total = (kind : Kind) (d : Draft) → Accepted d → (ahead : Ahead) → Tie-law
 
 -- the shared rule as such a program
 
-abbrev pub shared-yes : (ℕ → ℕ) → ℕ → (ℕ → ℕ) → ℕ → ℕ → Bool
-shared-yes weight total longest i run = ltb 0 (weight i) && leb (load weight (raised longest i run)) total
-
-abbrev pub sharing : (ℕ → ℕ) → ℕ → (ℕ → ℕ) → Meaning
-sharing weight total longest = record { weight = weight; total = total; longest = longest; yes = shared-yes weight total longest }
-
 abbrev pub shared-program : Program
 shared-program = record {
-  grant = λ k m i run. cond (m .yes i run) (sharing (m .weight) (m .total) (raised (m .longest) i run)) m;
-  rest = λ k m. sharing (m .weight) (m .total) (λ i. 0);
+  grant = λ k m i run. cond (m .yes i run) (shared-meaning (m .weight) (m .total) (raised (m .longest) i run)) m;
+  rest = λ k m. shared-meaning (m .weight) (m .total) (λ i. 0);
 }
 
 -- the shared rule of a table, at rest
 abbrev pub shared-rule : Draft → Meaning
-shared-rule d = sharing (rule-weight d) (d .total .0) (λ i. 0)
+shared-rule d = shared-meaning (rule-weight d) (d .total .0) (λ i. 0)
 
 -- so there are such programs: the shared rule is one, and its meaning is its table's
 pub record Shared-plays (d : Draft) : Type 0 where
