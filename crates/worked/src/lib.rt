@@ -8,5 +8,5 @@ pub fn examples_hold() -> usize
     ensures count { λ r. ⌜ r ≡ length examples ⌝ }
     ensures all { λ _. ⌜ Each Says examples ⌝ }
 {
-    9
+    14
 }

@@ -1,0 +1,13 @@
+mod Known
+mod Chosen
+mod Masks
+mod Seats
+mod Fines
+mod Turning
+mod Arriving
+mod Logged
+mod Empty
+mod Asked
+mod Alikes
+mod Listed
+mod Sharing
