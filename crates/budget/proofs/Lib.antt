@@ -1,6 +1,6 @@
 pub mod Slots
 pub mod Loads
-pub mod Weights
+pub mod Weighing
 pub mod Budgets
 pub mod Tallies
 pub mod Making

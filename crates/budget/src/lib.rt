@@ -9,3 +9,4 @@ pub mod shared;
 pub mod shared_rule;
 mod tally;
 mod tallying;
+pub mod weights;

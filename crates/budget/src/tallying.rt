@@ -9,20 +9,10 @@ ghost use Rattle.budget.specs.Rules.{others};
 ghost use Rattle.budget.specs.Slots.{weight-in, ticks-in};
 ghost use Rattle.budget.specs.Weights.{rule-weight};
 use super::tally::Tally;
+use super::weights::rule_weight;
 use table::table::Table;
-use table::task::Level;
 use table::units::Shares;
 use table::units::Ticks;
-
-// The weight that a rule of the table has for a task.
-pub(crate) fn rule_weight(table: &Table, number: u32) -> Shares
-    ensures { λ r. ⌜ r .0 ≡ rule-weight (draft-of (now (table .entry))) number ⌝ }
-{
-    match (table.level(number), table.weight(number)) {
-        (Some(Level::High), Some(weight)) => weight,
-        _ => Shares(0),
-    }
-}
 
 // The weights of a table's high tasks, by slot.
 fn rule_weights(table: &Table) -> [Shares; 32]

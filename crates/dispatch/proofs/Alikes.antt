@@ -39,3 +39,6 @@ alike-after d ahead s mark m n r = by (tick-fault s) r
 
 pub own-alike : (d : Draft) (m n : Meaning) → Alike m n → Of-table d m → Of-table d n
 own-alike d m n a of = record { weights = λ i l h. a .weights i ∙ of .weights i l h; total = a .total ∙ of .total }
+
+pub alike-then : (k m n : Meaning) → Alike k m → Alike m n → Alike k n
+alike-then k m n a b = record { weights = λ i. b .weights i ∙ a .weights i; total = b .total ∙ a .total }

@@ -20,14 +20,13 @@ pub record Alike (m n : Meaning) : Type 0 where
   pub weights : (i : ℕ) → n .weight i ≡ m .weight i
   pub total : n .total ≡ m .total
 
--- Entries, in their order, are answered as a dispatcher would. Logs have the latest entry first.
-pub record Answered (d : Draft) (ahead : Ahead) (entries : List Entry) : Type 0 where
-  pub meaning : Meaning
+-- Entries, in their order, are answered as a dispatcher would whose rule ends with this meaning. Logs have the latest entry first.
+pub record Answered (d : Draft) (ahead : Ahead) (entries : List Entry) (meaning : Meaning) : Type 0 where
   pub state : State
   pub produced : Produced lawful d ahead (reverse entries) meaning state
 
--- Two logs of exactly these calls, one of them under the shared rule of the table, with their counts before the first switch.
-pub record Compared (d : Draft) (ahead : Ahead) (calls : List Call) (shared other : ℕ) : Type 0 where
+-- Two logs of exactly these calls, one of them under the shared rule of the table, the other under a rule that ends with this meaning, with their counts before the first switch.
+pub record Compared (d : Draft) (ahead : Ahead) (calls : List Call) (shared other : ℕ) (other-meaning : Meaning) : Type 0 where
   pub shared-log : List Entry
   pub shared-meaning : Meaning
   pub shared-state : State
@@ -36,7 +35,6 @@ pub record Compared (d : Draft) (ahead : Ahead) (calls : List Call) (shared othe
   pub shared-calls : map call-of shared-log ≡ reverse calls
   pub shared-count : shared ≡ before-switch shared-log
   pub other-log : List Entry
-  pub other-meaning : Meaning
   pub other-state : State
   pub by-other : Produced lawful d ahead other-log other-meaning other-state
   pub other-own : Of-table d other-meaning

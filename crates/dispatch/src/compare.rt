@@ -47,7 +47,7 @@ pub fn compare<R: Rule + Drop, O: TieOrder>(
     other: R,
     calls: &[Call],
 ) -> Result<Counts, CompareRefusal>
-    ensures counts { λ r. ⌜ elim r [ Ok c ↦ Compared (draft-of (now (table .entry))) (O·TieOrder .ahead (now (order .entry))) (now (calls .entry)) (c .shared .0) (c .other .0) | Err e ↦ Unit {0} ] ⌝ }
+    ensures counts { λ r. ⌜ elim r [ Ok c ↦ ((last : R) × Compared (draft-of (now (table .entry))) (O·TieOrder .ahead (now (order .entry))) (now (calls .entry)) (c .shared .0) (c .other .0) (R·Rule .meaning last)) | Err e ↦ Unit {0} ] ⌝ }
     ensures refused { λ r. ⌜ elim r [ Ok c ↦ Of-table (draft-of (now (table .entry))) (R·Rule .meaning other) | Err e ↦ (Of-table (draft-of (now (table .entry))) (R·Rule .meaning other) → ⊥) ] ⌝ }
 {
     let mut sharing = Dispatcher::new(table, Shared::new(table), order);

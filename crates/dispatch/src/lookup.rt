@@ -6,7 +6,7 @@ ghost use Rattle.std.specs.declared.option.Option.the-variants.{None};
 ghost use Rattle.table.specs.Readers.{level-of};
 ghost use Rattle.table.specs.Tables.{draft-of};
 ghost use Rattle.table.specs.Tasks.{virtual-deadline};
-ghost use Rattle.runs.specs.States.{known, the-task, within as is-within, rule-weight, is-high};
+ghost use Rattle.runs.specs.States.{known, the-task, within as is-within, is-high};
 ghost use Rattle.runs.specs.Choices.{deadline as the-deadline, contender as the-contender};
 use order::candidate::Candidate;
 use runs::answer::Job;
@@ -15,7 +15,6 @@ use table::table::Table;
 use table::task::Criticality;
 use table::task::Level;
 use table::task::Task;
-use table::units::Shares;
 use table::units::Ticks;
 
 const BLANK: Task = Task {
@@ -43,16 +42,6 @@ fn virtual_deadline_of(table: &Table, number: u32) -> Ticks
     match table.virtual_deadline(number) {
         Some(ticks) => ticks,
         None => Ticks(0),
-    }
-}
-
-// The weight that a rule of the table has for a task.
-pub(crate) fn rule_weight(table: &Table, number: u32) -> Shares
-    ensures { λ r. ⌜ r .0 ≡ rule-weight (draft-of (now (table .entry))) number ⌝ }
-{
-    match (table.level(number), table.weight(number)) {
-        (Some(Level::High), Some(weight)) => weight,
-        _ => Shares(0),
     }
 }
 

@@ -8,9 +8,9 @@ ghost use Rattle.runs.specs.States.{new-state, foreign-rule, foreign-weight, is
 ghost use Rattle.runs.specs.Produced.{Kind, lawful, Keeps, Produced};
 ghost use Rattle.dispatch.specs.Cores.{Fine, state-of};
 use super::dispatcher::Dispatcher;
-use super::lookup::rule_weight;
 use super::state::Core;
 use budget::rule::Rule;
+use budget::weights::rule_weight;
 use order::tie_order::TieOrder;
 use runs::answer::Mode;
 use table::table::Table;

@@ -13,7 +13,7 @@ use Rattle.table.proofs.Tables.{table-accepted}
 use Rattle.budget.specs.Slots.{weight-in}
 use Rattle.budget.specs.Weights.{rule-weight}
 use Rattle.budget.proofs.Slots.{weight-past}
-use Rattle.budget.proofs.Weights.{rule-weight-past}
+use Rattle.budget.proofs.Weighing.{rule-weight-past}
 use Rattle.budget.proofs.tallying.rule_weights.Needs as need
 
 pub loop-k-holds : need.loop-k-holds

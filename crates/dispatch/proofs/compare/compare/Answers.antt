@@ -75,22 +75,24 @@ returns g c =
     let all : take (c .loop-i .i) calls ≡ calls = take-all (c .loop-i .i) calls (omega arith) in
     let bound = switch-bound d (table-accepted (c .args .table .now)) (g .O·TieOrder .ahead (c .args .order .now)) (laws g (c .args .order .now)) (a .log) (b .log) _ _ _ _ (a .by) (a .own) (b .by) (a .calls-are ∙ sym (b .calls-are)) in
     record {
-      counts = record {
-        shared-log = a .log;
-        shared-meaning = _;
-        shared-state = _;
-        by-shared = a .by;
-        shared-own = a .own;
-        shared-calls = a .calls-are ∙ ap reverse all;
-        shared-count = a .ticks-are;
-        other-log = b .log;
-        other-meaning = _;
-        other-state = _;
-        by-other = b .by;
-        other-own = b .own;
-        other-calls = b .calls-are ∙ ap reverse all;
-        other-count = b .ticks-are;
-        no-sooner = omega (arith, bound, a .ticks-are, b .ticks-are);
-      };
+      counts = (
+        c .loop-i .second .rule,
+        record {
+          shared-log = a .log;
+          shared-meaning = _;
+          shared-state = _;
+          by-shared = a .by;
+          shared-own = a .own;
+          shared-calls = a .calls-are ∙ ap reverse all;
+          shared-count = a .ticks-are;
+          other-log = b .log;
+          other-state = _;
+          by-other = b .by;
+          other-own = b .own;
+          other-calls = b .calls-are ∙ ap reverse all;
+          other-count = b .ticks-are;
+          no-sooner = omega (arith, bound, a .ticks-are, b .ticks-are);
+        },
+      );
       refused = judged-own (c .new-second .result .core .foreign) d (g .R·Rule .meaning (c .args .other)) (c .new-second .ensures .judged) (c .if-second .left);
     }

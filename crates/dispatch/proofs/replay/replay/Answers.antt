@@ -8,6 +8,7 @@ use Rattle.std.proofs.shelf.Lists.{take-all}
 use Rattle.table.specs.Tables.{draft-of}
 use Rattle.runs.specs.Numbers.{call-of}
 use Rattle.runs.specs.Produced.{lawful, Keeps}
+use Rattle.dispatch.proofs.Alikes.{alike-rested, alike-then}
 use Rattle.dispatch.proofs.Listed.{log-more, young-more, young-none}
 use Rattle.dispatch.proofs.replay.replay.Given as given
 use Rattle.dispatch.proofs.replay.replay.Needs as need
@@ -18,7 +19,7 @@ keeps g x = record { law = record { bounded = g .R·Rule·met .bounded x; silent
 pub loop-i-holds : need.loop-i-holds
 loop-i-holds g c =
     let e = c .new-dispatcher .ensures in
-    (e .fixed .0, e .fixed .1, refl, young-none (draft-of (c .args .table .now)) (c .args .entries .now), e .log)
+    (e .fixed .0, e .fixed .1, refl, young-none (draft-of (c .args .table .now)) (c .args .entries .now), e .log, record { weights = λ i. refl; total = refl })
 
 pub loop-i-again : need.loop-i-again
 loop-i-again g c =
@@ -36,6 +37,7 @@ loop-i-again g c =
       map-set-same call-of xs i r _ (e .call) ∙ inv .2,
       young-more d xs i r lt (inv .3) (new .1),
       rw (log-more xs i r lt) (new .0),
+      alike-then _ _ _ (inv .5) (e .alike),
     )
 
 pub returns : need.returns
@@ -45,6 +47,6 @@ returns g c =
     let all : take (c .loop-i .i) xs ≡ xs = take-all (c .loop-i .i) xs (omega arith) in
     record {
       calls = inv .2;
-      log = record { meaning = _; state = _; produced = rw all at (inv .4) };
+      log = (c .loop-i .dispatcher .rule, record { state = _; produced = rw all at (inv .4) }, alike-then _ _ _ (alike-rested _ _ (c .new-dispatcher .ensures .rested)) (inv .5));
       young = λ n l. inv .3 n (omega arith);
     }

@@ -6,6 +6,7 @@ use Rattle.table.specs.Tables.{draft-of}
 use Rattle.runs.specs.Numbers.{call-of}
 use Rattle.runs.specs.Produced.{lawful, Produced}
 use Rattle.runs.specs.Bounds.{Young}
+use Rattle.dispatch.specs.Comparing.{Alike}
 use Rattle.dispatch.specs.Cores.{state-of}
 use Rattle.dispatch.proofs.replay.replay.Given as given
 
@@ -15,3 +16,4 @@ Inv-loop-i g l =
     × (map call-of (l .entries) ≡ map call-of (l .entry .entries))
     × ((n : ℕ) → n ≤ l .i → Young (draft-of (l .table)) (reverse (take n (l .entries))))
     × Produced lawful (draft-of (l .table)) (g .O·TieOrder .ahead (l .order)) (reverse (take (l .i) (l .entries))) (g .R·Rule .meaning (l .dispatcher .rule)) (state-of (l .dispatcher .core))
+    × Alike (g .R·Rule .meaning (l .entry .dispatcher .rule)) (g .R·Rule .meaning (l .dispatcher .rule))

@@ -11,7 +11,7 @@ use Rattle.budget.specs.Slots.{ticks-in}
 use Rattle.budget.specs.Weights.{rule-weight}
 use Rattle.budget.proofs.Loads.{load-same}
 use Rattle.budget.proofs.Making.{list-small, fixed-after, over-total, in-total}
-use Rattle.budget.proofs.Weights.{rule-weight-most}
+use Rattle.budget.proofs.Weighing.{rule-weight-most}
 use Rattle.budget.proofs.fixed.Fixed.new.Needs as need
 
 pub load-of-sum-requires : need.load-of-sum-requires

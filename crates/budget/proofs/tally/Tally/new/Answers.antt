@@ -4,7 +4,7 @@ use Prim.Native.Nat.{suc}
 use native.Mathlib.Omega.{arith}
 use Rattle.table.specs.Tables.{draft-of}
 use Rattle.table.proofs.Tables.{table-accepted}
-use Rattle.budget.proofs.Weights.{rule-weight-past}
+use Rattle.budget.proofs.Weighing.{rule-weight-past}
 use Rattle.budget.proofs.tally.Tally.new.Needs as need
 
 pub ghost-result : need.ghost-result
