@@ -10,7 +10,12 @@ use Rattle.std.specs.declared.result.Result.the-variants.{Ok}
 use Rattle.table.specs.Verdict.{Draft}
 use Rattle.table.specs.Accepted.{Accepted}
 use Rattle.order.specs.Orders.{Ahead, Tie-laws}
+use Rattle.table.specs.declared.units.Ticks.{Ticks}
+use Rattle.budget.specs.declared.shared.Shared.{Shared}
+use Rattle.budget.specs.declared.fixed.Fixed.{Fixed}
 use Rattle.budget.specs.Meaning.{Meaning}
+use Rattle.budget.specs.OfRules.{New-of, Fixed-of, meaning-of-shared, meaning-of-fixed}
+use Rattle.budget.specs.Rules.{under-ceiling}
 use Rattle.runs.specs.declared.answer.Job.{Job}
 use Rattle.runs.specs.declared.entry.Entry.{Entry}
 use Rattle.runs.specs.declared.entry.Entry.the-variants.{Arrive}
@@ -88,3 +93,12 @@ No-19 = (kind : Kind) (d : Draft) (ahead : Ahead) (log : List Entry) (m : Meanin
 -- any other rule meets nothing else, and nothing changes
 abbrev pub Only-19 : Type 0
 Only-19 = (kind : Kind) (d : Draft) (ahead : Ahead) (log : List Entry) (m : Meaning) (s : State) → Produced kind d ahead log m s → (Of-table d m → ⊥) → All-by 19 log × (clock log ≡ 0) × ((i : ℕ) → s .job i ≡ None) × ((i : ℕ) → s .last i ≡ None)
+
+-- the shared rule and a fixed rule that were made for a table, and a ceiling over a rule of the table, are rules of the table; so they never meet 19
+pub record Own-rules (d : Draft) : Type 0 where
+  pub of-shared : (s : Shared) → New-of d (meaning-of-shared s) → Of-table d (meaning-of-shared s)
+  pub of-fixed : (budgets : List Ticks) (f : Fixed) → Fixed-of d budgets f → Of-table d (meaning-of-fixed f)
+  pub of-ceiling : (m : Meaning) (ceiling : ℕ → ℕ) → Of-table d m → Of-table d (under-ceiling m ceiling)
+
+abbrev pub Own-rules-stand : Type 0
+Own-rules-stand = (d : Draft) → Own-rules d

@@ -1,6 +1,6 @@
 // The theorems: each stands in the contract of a function that does nothing.
 ghost use Rattle.runs.specs.Agreement.{Lockstep};
-ghost use Rattle.runs.specs.Bounds.{Age-bound, Age-in-words, Switch-bound, No-12, No-19, Only-19, Counts, Ties};
+ghost use Rattle.runs.specs.Bounds.{Age-bound, Age-in-words, Switch-bound, No-12, No-19, Only-19, Own-rules-stand, Counts, Ties};
 ghost use Rattle.runs.specs.Programs.{Defined-making, Defined-arrivals, Defined-ticks, Total, Shared-stands};
 
 // Every pending job is younger than its period.
@@ -31,6 +31,11 @@ pub fn never_still_pending()
 // A rule with the table's weights and total never meets 19.
 pub fn own_rule_never_foreign()
     ensures { λ _. ⌜ No-19 ⌝ }
+{}
+
+// The shared rule and a fixed rule of a table, and a ceiling over such a rule, have its weights and total.
+pub fn rules_of_a_table_are_its_own()
+    ensures { λ _. ⌜ Own-rules-stand ⌝ }
 {}
 
 // Any other rule meets nothing but 19, and nothing changes.
