@@ -35,7 +35,18 @@ mod tests {
         line: u32,
     }
 
-    static CASES: [Case; 31] = [
+    static CASES: [Case; 33] = [
+        // 33 tasks are the table's business, not the reader's
+        Case {
+            text: b"S 10 2 2 5\nH 9 9\nH 9 9\nH 9 9\nH 9 9\nH 9 9\nH 9 9\nH 9 9\nH 9 9\nH 9 9\nH 9 9\nH 9 9\nH 9 9\nH 9 9\nH 9 9\nH 9 9\nH 9 9\nH 9 9\nH 9 9\nH 9 9\nH 9 9\nH 9 9\nH 9 9\nH 9 9\nH 9 9\nH 9 9\nH 9 9\nH 9 9\nH 9 9\nH 9 9\nH 9 9\nH 9 9\nH 9 9\nH 9 9\nM",
+            number: 0,
+            line: 0,
+        },
+        Case {
+            text: b"S 10 2 2 5\nH 9 9\nH 9 9\nH 9 9\nH 9 9\nH 9 9\nH 9 9\nH 9 9\nH 9 9\nH 9 9\nH 9 9\nH 9 9\nH 9 9\nH 9 9\nH 9 9\nH 9 9\nH 9 9\nH 9 9\nH 9 9\nH 9 9\nH 9 9\nH 9 9\nH 9 9\nH 9 9\nH 9 9\nH 9 9\nH 9 9\nH 9 9\nH 9 9\nH 9 9\nH 9 9\nH 9 9\nH 9 9\nH 9 9\nF 0 0 0 0 0 0 0 0 0 0 0 0 0 0 0 0 0 0 0 0 0 0 0 0 0 0 0 0 0 0 0 0 0",
+            number: 21,
+            line: 35,
+        },
         Case {
             text: b"",
             number: 23,
