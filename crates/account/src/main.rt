@@ -1,4 +1,6 @@
 // Plays table E tick by tick and tells what happens, and then compares the shared budget with fixed budgets on the same calls.
+#![tactic(auto)]
+
 mod comparison;
 mod example;
 mod telling;

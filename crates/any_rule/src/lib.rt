@@ -1,4 +1,6 @@
 // A budget rule that is chosen as the program runs: the shared or the fixed rule, with or without a ceiling.
+#![tactic(auto)]
+
 ghost use Rattle.std.specs.Prelude.{◌≡◌, Ok, Err, nat_lt};
 ghost use Rattle.table.specs.Firsts.{refusal};
 ghost use Rattle.table.specs.Tables.{draft_of};

@@ -1,4 +1,6 @@
 // Plays the scenario text on standard input, and prints its transcript.
+#![tactic(auto)]
+
 use play::board::Board;
 use std::io;
 use std::io::{BufWriter, Read, Write};

@@ -1,4 +1,6 @@
 // Budget rules: may this job have one more tick?
+#![tactic(auto)]
+
 pub mod ceiling;
 pub mod fixed;
 pub mod fixed_rule;

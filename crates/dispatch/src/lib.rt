@@ -1,4 +1,6 @@
 // The dispatcher: arrivals, ticks and questions over one table, one budget rule and one tie order.
+#![tactic(auto)]
+
 pub(crate) mod arrivals;
 pub mod calls;
 pub(crate) mod choose;

@@ -1,4 +1,6 @@
 // Plays every example text and compares each line with the expected transcript.
+#![tactic(auto)]
+
 use play::board::Board;
 use std::{fs, io};
 

@@ -1,4 +1,6 @@
 // A further budget rule, as an example of what one costs, and trials of the crate's own rules at their edges.
+#![tactic(auto)]
+
 ghost use Rattle.std.specs.Prelude.{◌≡◌};
 ghost use Rattle.budget.specs.Meaning.{Meaning};
 ghost use Rattle.further.specs.Never.{never_meaning};

@@ -1,4 +1,6 @@
 // Tie orders, and the one function that finds the first candidate.
+#![tactic(auto)]
+
 pub mod by_number;
 pub mod candidate;
 pub mod candidates;

@@ -1,4 +1,6 @@
 // The lines that a run prints, and the faults that stop a scenario.
+#![tactic(auto)]
+
 pub mod decimal;
 pub mod fault;
 pub mod output;

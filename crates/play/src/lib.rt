@@ -1,4 +1,6 @@
 // The board: a scenario text is played, and its transcript is pulled line by line.
+#![tactic(auto)]
+
 pub mod board;
 mod course;
 mod fields;

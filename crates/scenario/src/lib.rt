@@ -1,4 +1,6 @@
 // Scenario text: its lines one by one.
+#![tactic(auto)]
+
 pub mod fields;
 pub mod kind;
 pub mod laws;

@@ -1,4 +1,6 @@
 // Checks five tables and prints an account of each.
+#![tactic(auto)]
+
 mod account;
 mod draft;
 

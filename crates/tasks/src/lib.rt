@@ -1,4 +1,6 @@
 // Ticks and shares, tasks, and why a table is refused.
+#![tactic(auto)]
+
 pub mod refusal;
 pub mod task;
 pub mod units;

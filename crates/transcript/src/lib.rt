@@ -1,4 +1,6 @@
 // What the board prints for a text, as a definition, and what holds of it.
+#![tactic(auto)]
+
 ghost use Rattle.transcript.specs.Ages.{EveryTextStaysYoung};
 ghost use Rattle.transcript.specs.Contests.{SharedLastsLongest};
 

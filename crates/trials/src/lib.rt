@@ -1,4 +1,6 @@
 // A string of calls on a new dispatcher, under one rule or under two.
+#![tactic(auto)]
+
 pub(crate) mod answering;
 pub mod compare;
 pub(crate) mod count;

@@ -1,4 +1,6 @@
 // Worked examples as theorems: the checker computes each of them.
+#![tactic(auto)]
+
 ghost use Rattle.std.specs.Prelude.{◌≡◌, length};
 ghost use Rattle.worked.specs.Examples.{Each, Says, examples};
 
