@@ -65,7 +65,7 @@ def behind(text, start):
     return head.group(0).split(".")[:-1]
 
 
-def turn_antt(text, fields):
+def turn_antt(text, fields, answers):
     left = foreign(text)
     out, last = [], 0
     for m in TOKEN.finditer(text):
@@ -75,7 +75,7 @@ def turn_antt(text, fields):
             new = re.sub(r"`([^`]*)`", lambda s: "`" + " ".join(spelled(x) if NAME.match(x) else x for x in s.group(1).split(" ")) + "`", word)
         elif NAME.match(word) and word not in left:
             path = behind(text, m.start())
-            made = bool(path) and path[0] in HEADS
+            made = answers and bool(path) and path[0] in HEADS
             if not made or (len(path) > 1 and path[0] != "goal" and word in fields):
                 new = spelled(word)
         out += [text[last : m.start()], new]
@@ -125,7 +125,7 @@ def main():
             print(f"falls together: {n} -> {new}", others, sorted(plain.get(new, ()))[:4], sorted(plain[n])[:3])
     changed = 0
     for path, text in texts.items():
-        new = turn_antt(text, declared)
+        new = turn_antt(text, declared, path.endswith(("Answers.antt", "Invariants.antt")))
         changed += new != text
         if not check and new != text:
             open(path, "w", encoding="utf-8").write(new)

@@ -71,9 +71,9 @@ impl Rule for Fixed {
 
     ghost policy = { policy_of_fixed };
 
-    ghost bounded = { first_of (Prim.search rules, Prim.grind (arith, Self.row.coded.inj)) };
+    ghost bounded = { Prim.search rules };
 
-    ghost silent = { first_of (Prim.search rules, Prim.grind (arith, Self.row.coded.inj)) };
+    ghost silent = { Prim.search rules };
 
     ghost fits = { λ x i run e.
         let w = weights_of x.tally in

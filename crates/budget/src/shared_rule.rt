@@ -38,11 +38,11 @@ impl Rule for Shared {
 
     ghost policy = { policy_of_shared };
 
-    ghost bounded = { first_of (Prim.search rules, Prim.grind (arith, Self.row.coded.inj)) };
+    ghost bounded = { Prim.search rules };
 
-    ghost silent = { first_of (Prim.search rules, Prim.grind (arith, Self.row.coded.inj)) };
+    ghost silent = { Prim.search rules };
 
-    ghost fits = { first_of (Prim.search rules, Prim.grind (arith, Self.row.coded.inj)) };
+    ghost fits = { Prim.search rules };
 
     fn ask(&self, task: u32, run: Ticks) -> bool {
         self.spare(task).0 > run.0

@@ -62,15 +62,15 @@ module _ (ahead : Ahead) (at : ℕ → Candidate) (laws : TieLaws ahead) where
 
   pub chosen_once : (p : ℕ → Bool) → Numbered at p → (r s : Option ℕ) → Chosen ahead at p r → Chosen ahead at p s → r ≡ s
   chosen_once p numbered None None f g = refl
-  chosen_once p numbered None (Some b) f g = let n : p b ≡ false = f b in let t : p b ≡ true = g.is-offered in let c : ◌≡◌ {A = ℕ} 0 1 = cc in absurd (omega arith)
+  chosen_once p numbered None (Some b) f g = let n : p b ≡ false = f b in let t : p b ≡ true = g.is_offered in let c : ◌≡◌ {A = ℕ} 0 1 = cc in absurd (omega arith)
   chosen_once p numbered (Some a) None f g = let n : p a ≡ false = g a in let t : p a ≡ true = f.is_offered in let c : ◌≡◌ {A = ℕ} 0 1 = cc in absurd (omega arith)
   chosen_once p numbered (Some a) (Some b) f g =
       elim (ℕ_discrete a b) [
         | yes e ↦ ap Some e
         | no ne ↦
-            let ab : ahead (at a) (at b) ≡ true = f.leads b g.is-offered (λ e. ne (sym e)) in
+            let ab : ahead (at a) (at b) ≡ true = f.leads b g.is_offered (λ e. ne (sym e)) in
             let ba : ahead (at b) (at a) ≡ true = g.leads a f.is_offered ne in
-            let way : ahead (at b) (at a) ≡ not (ahead (at a) (at b)) = laws.one_way (at a) (at b) (apart p numbered a b f.is_offered g.is-offered ne) in
+            let way : ahead (at b) (at a) ≡ not (ahead (at a) (at b)) = laws.one_way (at a) (at b) (apart p numbered a b f.is_offered g.is_offered ne) in
             let z : not true ≡ true = cc in
             let c : ◌≡◌ {A = ℕ} 0 1 = cc in absurd (omega arith)
       ]

@@ -369,7 +369,7 @@ module _ (d : Draft) (ok : Accepted d) (ahead : Ahead) (laws : TieLaws ahead) wh
   passes_sane m n s s' mark a ours law (Passes.calm c) was = calm_sane m n s s' mark a ours law c was
   passes_sane m n s s' mark a ours law (Passes.switching c) was =
       settles_sane c.settles (high_sane c.mid c.after c.state mark c.number c.job c.end c.switches.mode' c.first c.serves
-      (switch_sane m c.mid s c.after c.dropped c.asked c.asked-job.run.0 was c.lowly c.denied c.switches))
+      (switch_sane m c.mid s c.after c.dropped c.asked c.asked_job.run.0 was c.lowly c.denied c.switches))
   passes_sane m n s s' mark a ours law (Passes.steady c) was =
       settles_sane c.settles (high_sane m s c.state mark c.number c.job c.end c.highly c.first c.serves was)
 

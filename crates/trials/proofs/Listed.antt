@@ -41,8 +41,8 @@ count_more kind d ahead m n s s' calls i x ticks ticks' over over' e lt c ext al
   by = (ext c.log c.by).0;
   own = own_alike d m n alike c.own;
   calls_are = calls';
-  ticks_are = ts ∙ ap (λ b. cond b ticks (ticks + calm e)) c.over-is ∙ ap (λ k. cond (switched_in c.log) k (k + calm e)) c.ticks-are;
-  over_is = os ∙ ap (λ b. cond b true (switches e)) c.over-is;
+  ticks_are = ts ∙ ap (λ b. cond b ticks (ticks + calm e)) c.over_is ∙ ap (λ k. cond (switched_in c.log) k (k + calm e)) c.ticks_are;
+  over_is = os ∙ ap (λ b. cond b true (switches e)) c.over_is;
 }
   where
     calls' : call_of e ∷ map call_of c.log ≡ reverse (take (i + 1) calls)

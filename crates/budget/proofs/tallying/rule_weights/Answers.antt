@@ -16,13 +16,13 @@ pub loop-k-preserved : goal.loop-k-preserved
 loop-k-preserved c =
     let ws = c.loop-k.weights in
     let k = c.loop-k.k in
-    let v = c.rule-weight.result in
+    let v = c.rule_weight.result in
     let low : k < length ws = omega arith in
     let one : k + 1 ≡ suc k = add-one k in (
       simp length-set c.loop-k.invariant.0,
       below_more _ _
           (λ j h. let ne : j ≢ k = omega arith in ap (λ s. s.0) (get_or-set_other ws k j v (shares 0) ne) ∙ c.loop-k.invariant.1 j h)
-          (ap (λ s. s.0) (get_or-set_same ws k v (shares 0) low) ∙ c.rule-weight.ensures ∙ ap (rule_weight (draft_of c.args.table.now)) one),
+          (ap (λ s. s.0) (get_or-set_same ws k v (shares 0) low) ∙ c.rule_weight.ensures ∙ ap (rule_weight (draft_of c.args.table.now)) one),
     )
 
 pub returns : goal.returns

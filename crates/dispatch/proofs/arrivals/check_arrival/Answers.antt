@@ -10,11 +10,11 @@ use Rattle.dispatch.proofs.Known.{known_low}
 use Rattle.dispatch.proofs.Arriving.{next_small, last_fault, where_ok}
 use Rattle.dispatch.proofs.arrivals.check_arrival.Goals as goal
 
-pub next-after-next-requires : goal.next-after-next-requires
-next-after-next-requires c =
+pub next_after-next-requires : goal.next_after-next-requires
+next_after-next-requires c =
     let t = c.args.table.now in
     let sound = task_sound (draft_of t) (table_accepted t) c.args.number c.in-Some.task (sym c.in-Some.ensures) in
-    next_small c.in-Some.task.period.0 c.last-at.result (λ r e. omega (arith, c.requires.lasts (c.args.number - 1) r (sym c.last-at.ensures ∙ e), c.requires.clocked)) sound.period_high
+    next_small c.in-Some.task.period.0 c.last_at.result (λ r e. omega (arith, c.requires.lasts (c.args.number - 1) r (sym c.last_at.ensures ∙ e), c.requires.clocked)) sound.period_high
 
 pub returns : goal.returns
 returns c =
@@ -23,11 +23,11 @@ returns c =
     let i = c.args.number in
     let p = present (in_range 1 d.count i) (the_task d i) c.in-Some.task (sym c.in-Some.ensures) in
     let low : 1 ≤ i = known_low d i p.0 in
-    let last : s.last i ≡ c.last-at.result = seat_at c.args.core.now.last i low ∙ sym c.last-at.ensures in
-    let free : s.job i ≡ None = seat_at c.args.core.now.jobs i low ∙ sym c.in-default-job-at.ensures in
-    let next : next_arrival (period d i) (s.last i) ≡ c.next-after-next.result.0 = ap (next_arrival (period d i)) last ∙ ap (λ t. next_arrival t.period.0 c.last-at.result) p.1 ∙ sym c.next-after-next.ensures in
+    let last : s.last i ≡ c.last_at.result = seat_at c.args.core.now.last i low ∙ sym c.last_at.ensures in
+    let free : s.job i ≡ None = seat_at c.args.core.now.jobs i low ∙ sym c.in_default-job_at.ensures in
+    let next : next_arrival (period d i) (s.last i) ≡ c.next_after-next.result.0 = ap (next_arrival (period d i)) last ∙ ap (λ t. next_arrival t.period.0 c.last_at.result) p.1 ∙ sym c.next_after-next.ensures in
     let early : next_arrival (period d i) (s.last i) ≤ s.clock = omega (arith, next, c.if-next-core.false) in
     record {
-      first = c.check-assured.ensures ∙ ap (λ t. unassured_by s.mode i (within t.criticality 0)) (sym p.1) ∙ sym (last_fault d s i c.if-core.false p.0 early free);
-      known = where_ok (known d i ≡ true) c.check-assured.result p.0;
+      first = c.check_assured.ensures ∙ ap (λ t. unassured_by s.mode i (within t.criticality 0)) (sym p.1) ∙ sym (last_fault d s i c.if-core.false p.0 early free);
+      known = where_ok (known d i ≡ true) c.check_assured.result p.0;
     }

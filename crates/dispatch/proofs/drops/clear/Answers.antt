@@ -13,9 +13,9 @@ loop-rest-preserved c =
     let some = c.loop-rest-test.true in
     let word : rest < 2 ^ 32 = omega arith in
     let long : length c.loop-rest.jobs ≡ 32 = omega arith in
-    let left = c.without-lowest-rest.ensures.bits in
+    let left = c.without_lowest-rest.ensures.bits in
     let on = c.loop-rest.invariant.1 (lowest rest) (lowest_set 32 rest word some).0 in
-    let after = c.without-lowest-rest.result in
+    let after = c.without_lowest-rest.result in
     (cleared_more rest after left word some c.args.jobs.now c.loop-rest.jobs c.args.mask long c.loop-rest.invariant.0 on, λ k e. c.loop-rest.invariant.1 k (left_old rest after left word some k e), omega arith, simp length-set long)
 
 pub returns : goal.returns

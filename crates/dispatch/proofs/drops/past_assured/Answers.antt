@@ -6,13 +6,13 @@ use Rattle.runs.specs.Slots.{seat}
 use Rattle.runs.specs.Ticking.{drops}
 use Rattle.dispatch.proofs.Masks.{named_none, named_all, named_more, mask_is, drops_seat}
 use Rattle.dispatch.proofs.drops.past_assured.Goals as goal
-use Rattle.dispatch.proofs.drops.past_assured.Goals.{then-is-past, else-is-past}
+use Rattle.dispatch.proofs.drops.past_assured.Goals.{then-is_past, else-is_past}
 
 pub loop-rest-init : goal.loop-rest-init
 loop-rest-init c = (omega arith, omega arith, named_none (draft_of c.args.table.now) c.args.jobs.now c.args.pending c.requires.agrees)
 
-pub is-past-requires : goal.is-past-requires
-is-past-requires c = record { low = (lowest_set 32 c.loop-rest.rest (omega arith) c.loop-rest-test.true).1; owned = c.requires.owned }
+pub is_past-requires : goal.is_past-requires
+is_past-requires c = record { low = (lowest_set 32 c.loop-rest.rest (omega arith) c.loop-rest-test.true).1; owned = c.requires.owned }
 
 or_false : (b : Bool) → b ≡ (b || false)
 or_false true = refl
@@ -27,13 +27,13 @@ loop-rest-preserved c =
     let some = c.loop-rest-test.true in
     let word : rest < 2 ^ 32 = omega arith in
     let low : lowest rest < 32 = (lowest_set 32 rest word some).1 in
-    let more = named_more rest c.without-lowest-rest.result c.without-lowest-rest.ensures.bits word some d jobs past in
-    let is = c.is-past.ensures in
-    elim c.if-is-past.branch [
-      | then-is-past w ↦
-          (omega arith, omega arith, rw w.past-is (more w.with-slot-past.result true (sym w.if-is-past.true ∙ is) (λ k. w.with-slot-past.ensures k ∙ ap (λ b. bit past k || (b && eqb k (lowest rest))) (lt-ltb (lowest rest) 32 low)) c.loop-rest.invariant.2))
-      | else-is-past w ↦
-          (omega arith, omega arith, rw w.past-is (more past false (sym w.if-is-past.false ∙ is) (λ k. or_false (bit past k)) c.loop-rest.invariant.2))
+    let more = named_more rest c.without_lowest-rest.result c.without_lowest-rest.ensures.bits word some d jobs past in
+    let is = c.is_past.ensures in
+    elim c.if-is_past.branch [
+      | then-is_past w ↦
+          (omega arith, omega arith, rw w.past-is (more w.with_slot-past.result true (sym w.if-is_past.true ∙ is) (λ k. w.with_slot-past.ensures k ∙ ap (λ b. bit past k || (b && eqb k (lowest rest))) (lt-ltb (lowest rest) 32 low)) c.loop-rest.invariant.2))
+      | else-is_past w ↦
+          (omega arith, omega arith, rw w.past-is (more past false (sym w.if-is_past.false ∙ is) (λ k. or_false (bit past k)) c.loop-rest.invariant.2))
     ]
 
 pub returns : goal.returns

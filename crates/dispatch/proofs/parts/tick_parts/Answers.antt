@@ -19,18 +19,18 @@ returns-then-core g c =
     let r = refused d (g.O.TieOrder.ahead c.args.order.now) s c.args.mark (g.R.Rule.meaning c.args.rule.now) ForeignRule (foreign_fault s c.if-core.true) in
     record { answer = r.0; state = r.1; rule = r.2; policy = refl; fine = c.requires; same = (refl, refl) }
 
-pub returns-in-default : goal.returns-in-default
-returns-in-default g c =
+pub returns-in_default : goal.returns-in_default
+returns-in_default g c =
     let d = draft_of c.args.table.now in
     let s = state_of c.args.core.now in
     let ahead : Ahead = g.O.TieOrder.ahead c.args.order.now in
     let m : Meaning = g.R.Rule.meaning c.args.rule.now in
     let mark = c.args.mark in
-    let none = sym c.in-default.ensures in
+    let none = sym c.in_default.ensures in
     let calm = idle_calm d ahead m.yes s none in
     let o = outcome_is d ahead m.yes s mark false None calm none in
-    let a = accepted d ahead s mark m (outcome_by d s mark false s.mode s.job None) (no_fault s c.if-core.false c.if-core-ge-CLOCK-END.false) o in
-    let early : s.clock < 2 ^ 40 = c.if-core-ge-CLOCK-END.false in
+    let a = accepted d ahead s mark m (outcome_by d s mark false s.mode s.job None) (no_fault s c.if-core.false c.if-core-ge-CLOCK_END.false) o in
+    let early : s.clock < 2 ^ 40 = c.if-core-ge-CLOCK_END.false in
     let f = c.requires in
     record {
       answer = a.0;
@@ -70,7 +70,7 @@ returns g c =
     let jobs' = running_jobs b d s.job in
     let turns : turn ahead mode' d jobs' ≡ Some t = ap (λ x. turn ahead x.mode d x.job) (sym e.state) ∙ e.taken in
     let o = outcome_is d ahead m.yes s mark b (Some t) (sym e.switched) turns in
-    let a = accepted d ahead s mark m (outcome_by d s mark b mode' jobs' (Some t)) (no_fault s c.if-core.false c.if-core-ge-CLOCK-END.false) o in
+    let a = accepted d ahead s mark m (outcome_by d s mark b mode' jobs' (Some t)) (no_fault s c.if-core.false c.if-core-ge-CLOCK_END.false) o in
     let em : s₁.mode ≡ mode' = ap (λ x. x.mode) e.state in
     let st : state_of s₂ ≡ served_state d mark (running d b s) t = f.state ∙ ap (λ x. served_state d mark x t) e.state in
     let R : State → Type 0 = λ x. LetRest (none_pending x.job) mid n in

@@ -12,14 +12,14 @@ use Rattle.dispatch.proofs.Fines.{seat_slot, seat_known, seat_below, fine_writte
 use Rattle.dispatch.proofs.Seats.{state_is}
 use Rattle.dispatch.proofs.steps.serve.Goals as goal
 
-pub overflow-add-run : goal.overflow-add-run
-overflow-add-run c =
+pub overflow_add-run : goal.overflow_add-run
+overflow_add-run c =
     let s = c.args.core.now in
     let there = seat_slot s.jobs c.args.taken.number c.args.taken.job c.requires.pending in
     omega (arith, c.requires.fine.run (c.args.taken.number - 1) c.args.taken.job there.1, c.requires.fine.clocked)
 
-pub task-of-requires : goal.task-of-requires
-task-of-requires c = seat_known (draft_of c.args.table.now) c.args.core.now.jobs c.requires.fine.owned c.args.taken.number c.args.taken.job c.requires.pending
+pub task_of-requires : goal.task_of-requires
+task_of-requires c = seat_known (draft_of c.args.table.now) c.args.core.now.jobs c.requires.fine.owned c.args.taken.number c.args.taken.job c.requires.pending
 
 pub write-requires : goal.write-requires
 write-requires c = seat_below c.args.table.now c.args.core.now.jobs c.requires.fine.owned c.args.taken.number c.args.taken.job c.requires.pending
@@ -33,7 +33,7 @@ returns c =
     let i = c.args.taken.number in
     let j = c.args.taken.job in
     let e = c.ending-ending.result in
-    let rest = c.rest-of.result in
+    let rest = c.rest_of.result in
     let run = ticks (j.run.0 + 1) in
     let w = c.write.ensures in
     let f = c.requires.fine in
@@ -42,8 +42,8 @@ returns c =
     let ec : s₁.clock ≡ s.clock = w.clock' in
     let later : s'.clock.0 ≡ s.clock.0 + 1 = ap (λ t. t.0 + 1) ec in
     let back : suc (i - 1) ≡ i = omega (arith, there.0) in
-    let ends : e ≡ ending (the_task d i) s.mode c.args.mark (j.run.0 + 1) = c.ending-ending.ensures ∙ ap (λ t. ending t s.mode c.args.mark (j.run.0 + 1)) c.task-of.ensures.is in
-    let is : rest ≡ served (ending (the_task d i) s.mode c.args.mark (j.run.0 + 1)) j = c.rest-of.ensures ∙ rest_served e j run refl ∙ ap (λ x. served x j) ends in
+    let ends : e ≡ ending (the_task d i) s.mode c.args.mark (j.run.0 + 1) = c.ending-ending.ensures ∙ ap (λ t. ending t s.mode c.args.mark (j.run.0 + 1)) c.task_of.ensures.is in
+    let is : rest ≡ served (ending (the_task d i) s.mode c.args.mark (j.run.0 + 1)) j = c.rest_of.ensures ∙ rest_served e j run refl ∙ ap (λ x. served x j) ends in
     let jobs = jobs_written d s s₁ s' (i - 1) rest w f low refl refl (omega (arith, later)) (omega (arith, later, c.requires.early)) in
     record {
       ending = ends;
@@ -52,6 +52,6 @@ returns c =
       fine = fine_written d s s₁ s' (i - 1) rest w f low refl refl (omega (arith, later)) (omega (arith, later, c.requires.early))
           (λ k r q. omega (arith, f.lasts k r (ap (λ l. get_or l k None) (sym w.last') ∙ q), later)) (ap length w.last' ∙ f.seats)
           (λ a q. f.owned (i - 1) j there.1)
-          (λ a q. omega (arith, rest_arrival e j.arrival run a (sym c.rest-of.ensures ∙ q), f.arrived (i - 1) j there.1, later))
-          (λ a q. omega (arith, rest_run_is e j.arrival run a (sym c.rest-of.ensures ∙ q), f.run (i - 1) j there.1, later));
+          (λ a q. omega (arith, rest_arrival e j.arrival run a (sym c.rest_of.ensures ∙ q), f.arrived (i - 1) j there.1, later))
+          (λ a q. omega (arith, rest_run_is e j.arrival run a (sym c.rest_of.ensures ∙ q), f.run (i - 1) j there.1, later));
     }

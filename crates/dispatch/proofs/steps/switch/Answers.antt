@@ -13,11 +13,11 @@ returns c =
     let d = draft_of c.args.table.now in
     let s = c.args.core.now in
     let s' : Core = record { foreign = s.foreign; clock = s.clock; mode = High; pending = c.without-core.result; jobs = c.clear.new.jobs; last = s.last } in
-    let dropped = c.past-assured-dropped.result in
-    let bits = c.past-assured-dropped.ensures.bits in
+    let dropped = c.past_assured-dropped.result in
+    let bits = c.past_assured-dropped.ensures.bits in
     let at = c.clear.ensures.at in
     record {
-      dropped = c.past-assured-dropped.ensures.is;
+      dropped = c.past_assured-dropped.ensures.is;
       state = state_is (state_of s') (running d true (state_of s)) refl refl refl (jobs_switched d s s' dropped bits at) refl;
       fine = fine_switched d s s' dropped bits at c.requires refl refl c.clear.ensures.long c.without-core.ensures;
     }

@@ -5,7 +5,7 @@ use Rattle.order.proofs.Bits.{lowest_set}
 use Rattle.order.proofs.Looked.{none_offered, looked_first, looked_more, looked_all}
 use Rattle.order.proofs.chooser.first.Given as given
 use Rattle.order.proofs.chooser.first.Goals as goal
-use Rattle.order.proofs.chooser.first.Goals.{then-goes-ahead, else-goes-ahead}
+use Rattle.order.proofs.chooser.first.Goals.{then-goes_ahead, else-goes_ahead}
 
 laws : (g : given.Over) (x : g.row.O.Denot) → TieLaws (g.O.TieOrder.ahead x)
 laws g x = record { one_way = g.met.O.TieOrder.one_way x; transitive = g.met.O.TieOrder.transitive x; refines_deadlines = g.met.O.TieOrder.refines_deadlines x }
@@ -19,7 +19,7 @@ loop-rest-init g c =
     let at = g.C.Candidates.at c.args.candidates.now in
     let low : lowest m < 32 = (lowest_set 32 m (omega arith) c.if-mask-eq0.false).1 in
     let number = sym (ap (λ x. x.number) c.candidate-leader.ensures.is) ∙ c.candidate-leader.ensures.numbered low in
-    (c.candidate-leader.ensures.is, looked_first (g.O.TieOrder.ahead c.args.order.now) at (laws g c.args.order.now) m c.without-lowest-rest.result (omega arith) c.without-lowest-rest.type-inv c.if-mask-eq0.false number c.without-lowest-rest.ensures.bits)
+    (c.candidate-leader.ensures.is, looked_first (g.O.TieOrder.ahead c.args.order.now) at (laws g c.args.order.now) m c.without_lowest-rest.result (omega arith) c.without_lowest-rest.type_inv c.if-mask-eq0.false number c.without_lowest-rest.ensures.bits)
 
 pub loop-rest-preserved : goal.loop-rest-preserved
 loop-rest-preserved g c =
@@ -31,11 +31,11 @@ loop-rest-preserved g c =
     let rival : c.candidate-rival.result ≡ at (lowest rest) = c.candidate-rival.ensures.is in
     let number = sym (ap (λ x. x.number) rival) ∙ c.candidate-rival.ensures.numbered low in
     let leads = c.loop-rest.invariant.0 in
-    let told : c.goes-ahead.result ≡ ahead (at (lowest rest)) (at best) = c.goes-ahead.ensures ∙ rw (leads, rival) in
-    let more = λ (t : Bool) (e : ahead (at (lowest rest)) (at best) ≡ t). looked_more ahead at (laws g c.args.order.now) c.args.mask rest c.without-lowest-rest-in-loop-rest.result best t e c.without-lowest-rest-in-loop-rest.type-inv c.loop-rest-test.true number c.without-lowest-rest-in-loop-rest.ensures.bits c.loop-rest.invariant.1 in
-    elim c.if-goes-ahead.branch [
-      | then-goes-ahead w ↦ rw (w.best-is, w.leader-is) (rival, more true (sym told ∙ w.if-goes-ahead.true))
-      | else-goes-ahead w ↦ rw (w.best-is, w.leader-is) (leads, more false (sym told ∙ w.if-goes-ahead.false))
+    let told : c.goes_ahead.result ≡ ahead (at (lowest rest)) (at best) = c.goes_ahead.ensures ∙ rw (leads, rival) in
+    let more = λ (t : Bool) (e : ahead (at (lowest rest)) (at best) ≡ t). looked_more ahead at (laws g c.args.order.now) c.args.mask rest c.without_lowest-rest-in-loop-rest.result best t e c.without_lowest-rest-in-loop-rest.type_inv c.loop-rest-test.true number c.without_lowest-rest-in-loop-rest.ensures.bits c.loop-rest.invariant.1 in
+    elim c.if-goes_ahead.branch [
+      | then-goes_ahead w ↦ rw (w.best-is, w.leader-is) (rival, more true (sym told ∙ w.if-goes_ahead.true))
+      | else-goes_ahead w ↦ rw (w.best-is, w.leader-is) (leads, more false (sym told ∙ w.if-goes_ahead.false))
     ]
 
 pub returns : goal.returns

@@ -9,10 +9,10 @@ pub loop-rest-init : goal.loop-rest-init
 loop-rest-init c =
     let D : List ℕ = decimal c.args.n in
     let none : drop (length D) D ≡ [] = drop_all (length D) D (omega arith) in
-    (omega arith, omega (arith, c.digit-count.ensures), rw none (sym (append-nil D)), rw none (sym (over_nothing (c.args.at + c.digit-count.result) c.args.out.now)))
+    (omega arith, omega (arith, c.digit_count.ensures), rw none (sym (append-nil D)), rw none (sym (over_nothing (c.args.at + c.digit_count.result) c.args.out.now)))
 
-pub overflow-sub-end : goal.overflow-sub-end
-overflow-sub-end c = omega (arith, decimal_nonempty c.loop-rest.rest (omega arith), c.loop-rest.invariant.1)
+pub overflow_sub-end : goal.overflow_sub-end
+overflow_sub-end c = omega (arith, decimal_nonempty c.loop-rest.rest (omega arith), c.loop-rest.invariant.1)
 
 pub bounds-out-end : goal.bounds-out-end
 bounds-out-end c = omega (arith, front_length (decimal c.args.n) (decimal c.loop-rest.rest) _ c.loop-rest.invariant.2, decimal_nonempty c.loop-rest.rest (omega arith), c.loop-rest.invariant.1, c.requires)
@@ -47,7 +47,7 @@ returns c =
     let e : c.loop-rest.end ≡ c.args.at + 1 = omega (arith, decimal_one n c.loop-rest-test.false, c.loop-rest.invariant.1) in
     let room : c.args.at < length xs = omega (arith, decimal_nonempty c.args.n (omega arith), c.requires) in
     record {
-      behind = omega (arith, c.digit-count.ensures);
+      behind = omega (arith, c.digit_count.ensures);
       over = ap (λ o. set o c.args.at (48 + n)) c.loop-rest.invariant.3 ∙ ap (λ k. set (over k T xs) c.args.at (48 + n)) e ∙ set_over c.args.at T xs (48 + n) room
           ∙ ap (λ w. over c.args.at w xs) (sym (last n D c.loop-rest.invariant.2 c.loop-rest-test.false));
     }

@@ -17,11 +17,11 @@ returns-then-b-lt48 c =
     sym (value_none c.args.field.now (sym c.loop-b.invariant.1 ∙ digits_not c.args.field.now c.loop-b.b-index c.loop-b-test.true
     (elim c.then-b-lt48.branch [ then-b-lt48-via-then-b-lt48 w ↦ inl w.if-b-lt48.true | then-b-lt48-via-else-b-lt48+then-b-gt57 w ↦ inr w.if-b-gt57.true ])))
 
-pub overflow-mul-n : goal.overflow-mul-n
-overflow-mul-n c = omega (arith, small c.loop-b.b-index (omega arith), c.loop-b.invariant.0)
+pub overflow_mul-n : goal.overflow_mul-n
+overflow_mul-n c = omega (arith, small c.loop-b.b-index (omega arith), c.loop-b.invariant.0)
 
-pub overflow-add-n : goal.overflow-add-n
-overflow-add-n c = omega (arith, small c.loop-b.b-index (omega arith), c.loop-b.invariant.0)
+pub overflow_add-n : goal.overflow_add-n
+overflow_add-n c = omega (arith, small c.loop-b.b-index (omega arith), c.loop-b.invariant.0)
 
 pub loop-b-preserved : goal.loop-b-preserved
 loop-b-preserved c =

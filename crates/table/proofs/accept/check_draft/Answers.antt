@@ -7,4 +7,4 @@ pub returns-in-Ok : goal.returns-in-Ok
 returns-in-Ok c =
     let ts = c.args.tasks.now in
     let known = c.in-Ok.ensures in
-    c.check-tests.ensures ∙ verdict_after (drafted c.args.scale c.args.total c.args.factor (length ts) ts) _ known.0 known.1
+    c.check_tests.ensures ∙ verdict_after (drafted c.args.scale c.args.total c.args.factor (length ts) ts) _ known.0 known.1

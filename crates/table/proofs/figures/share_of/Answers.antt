@@ -5,8 +5,8 @@ use Rattle.table.proofs.figures.share_of.Goals as goal
 fits : (h t p : ℕ) → p ≤ t → h / t * p ≤ h
 fits h t p l = omega (arith, mul-le-mul_left (h / t) l, div-mul-le_self h t)
 
-pub overflow-mul-result : goal.overflow-mul-result
-overflow-mul-result c =
+pub overflow_mul-result : goal.overflow_mul-result
+overflow_mul-result c =
     let small = fits c.args.scale.0 c.args.task.period.0 c.of-ticks.result.0 (omega (arith, c.of-ticks.ensures, c.requires.1)) in
     record { fits = omega arith }
 

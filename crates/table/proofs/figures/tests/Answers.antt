@@ -3,9 +3,9 @@ use Rattle.table.specs.Tasks.{slot}
 use Rattle.table.proofs.Accepted.{without_factor}
 use Rattle.table.proofs.figures.tests.Goals as goal
 
-pub figures-of-requires : goal.figures-of-requires
-figures-of-requires c = record {
-  passed = without_factor c.args.scale c.args.factor _ (slot c.args.tasks.now) (sym c.in-ok-check-tasks.ensures);
+pub figures_of-requires : goal.figures_of-requires
+figures_of-requires c = record {
+  passed = without_factor c.args.scale c.args.factor _ (slot c.args.tasks.now) (sym c.in_ok-check_tasks.ensures);
   few = search rules;
   small = search rules;
 }

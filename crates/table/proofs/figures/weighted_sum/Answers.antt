@@ -9,8 +9,8 @@ use Rattle.table.proofs.Parts.{part_most}
 use Rattle.table.proofs.Sums.{sum_none, sum_more}
 use Rattle.table.proofs.figures.weighted_sum.Goals as goal
 
-pub share-of-sum-requires : goal.share-of-sum-requires
-share-of-sum-requires c =
+pub share_of-sum-requires : goal.share_of-sum-requires
+share_of-sum-requires c =
     let i = c.loop-i.i in
     let h = c.args.scale in
     let t = slot c.args.tasks.now i in
@@ -23,6 +23,6 @@ loop-i-init c = (sym (sum_none _), omega arith)
 pub loop-i-preserved : goal.loop-i-preserved
 loop-i-preserved c =
     let F : ℕ → ℕ = λ k. weight c.args.scale (slot c.args.tasks.now k) * part_of c.args.part (slot c.args.tasks.now k) in (
-      ap (λ x. x + c.share-of-sum.result.0) c.loop-i.invariant.0 ∙ ap (λ x. sum c.loop-i.i F + x) c.share-of-sum.ensures.is ∙ sym (sum_more c.loop-i.i F),
-      omega (arith, c.share-of-sum.ensures.small, c.loop-i.invariant.1, c.requires.small),
+      ap (λ x. x + c.share_of-sum.result.0) c.loop-i.invariant.0 ∙ ap (λ x. sum c.loop-i.i F + x) c.share_of-sum.ensures.is ∙ sym (sum_more c.loop-i.i F),
+      omega (arith, c.share_of-sum.ensures.small, c.loop-i.invariant.1, c.requires.small),
     )

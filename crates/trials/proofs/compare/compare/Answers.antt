@@ -30,7 +30,7 @@ loop-i-init g c =
     let m' = meaning_of_shared c.new-sharing.result.rule in
     let n : Meaning = g.R.Rule.meaning c.args.other in
     let n' : Meaning = g.R.Rule.meaning c.new-second.result.rule in
-    let own = judged_own c.new-second.result.core.foreign d n f.judged (sym c.rule-is-foreign.ensures ∙ c.if-rule-is-foreign.false) in (
+    let own = judged_own c.new-second.result.core.foreign d n f.judged (sym c.rule_is_foreign.ensures ∙ c.if-rule_is_foreign.false) in (
       e.fixed.0,
       e.fixed.1,
       f.fixed.0,
@@ -90,5 +90,5 @@ returns g c =
           no_sooner = omega (arith, bound, a.ticks_are, b.ticks_are);
         },
       );
-      refused = judged_own c.new-second.result.core.foreign d (g.R.Rule.meaning c.args.other) c.new-second.ensures.judged (sym c.rule-is-foreign.ensures ∙ c.if-rule-is-foreign.false);
+      refused = judged_own c.new-second.result.core.foreign d (g.R.Rule.meaning c.args.other) c.new-second.ensures.judged (sym c.rule_is_foreign.ensures ∙ c.if-rule_is_foreign.false);
     }

@@ -10,22 +10,22 @@ use Rattle.budget.proofs.Making.{list_small, fixed_after, over_total, in_total}
 use Rattle.budget.proofs.Weighing.{rule_weight_most}
 use Rattle.budget.proofs.fixed.Fixed.new.Goals as goal
 
-pub load-of-sum-requires : goal.load-of-sum-requires
-load-of-sum-requires c =
+pub load_of-sum-requires : goal.load_of-sum-requires
+load_of-sum-requires c =
     let d = draft_of c.args.table.now in
     record {
       weights = λ i. omega (arith, c.new-tally.ensures.0 i, rule_weight_most d i, (table_accepted c.args.table.now).scale_high);
-      runs = λ i. omega (arith, c.slots-of-slots.ensures i, list_small d c.args.budgets.now (sym c.in-ok-check-budgets.ensures) i);
+      runs = λ i. omega (arith, c.slots_of-slots.ensures i, list_small d c.args.budgets.now (sym c.in_ok-check_budgets.ensures) i);
     }
 
 pub returns-then-sum-tally : goal.returns-then-sum-tally
 returns-then-sum-tally c =
     let d = draft_of c.args.table.now in
     let cs = c.args.budgets.now in
-    let same = load_same (weights_of c.new-tally.result) (rule_weight d) (ticks_in c.slots-of-slots.result) (ticks_in cs) c.new-tally.ensures.0 c.slots-of-slots.ensures in
+    let same = load_same (weights_of c.new-tally.result) (rule_weight d) (ticks_in c.slots_of-slots.result) (ticks_in cs) c.new-tally.ensures.0 c.slots_of-slots.ensures in
     record {
-      refused = over_total d cs c.load-of-sum.result c.new-tally.result.total (c.load-of-sum.ensures ∙ same) c.new-tally.ensures.1 c.if-sum-tally.true
-          ∙ sym (fixed_after d cs (sym c.in-ok-check-budgets.ensures));
+      refused = over_total d cs c.load_of-sum.result c.new-tally.result.total (c.load_of-sum.ensures ∙ same) c.new-tally.ensures.1 c.if-sum-tally.true
+          ∙ sym (fixed_after d cs (sym c.in_ok-check_budgets.ensures));
       made = tt;
     }
 
@@ -33,12 +33,12 @@ pub returns : goal.returns
 returns c =
     let d = draft_of c.args.table.now in
     let cs = c.args.budgets.now in
-    let same = load_same (weights_of c.new-tally.result) (rule_weight d) (ticks_in c.slots-of-slots.result) (ticks_in cs) c.new-tally.ensures.0 c.slots-of-slots.ensures in
+    let same = load_same (weights_of c.new-tally.result) (rule_weight d) (ticks_in c.slots_of-slots.result) (ticks_in cs) c.new-tally.ensures.0 c.slots_of-slots.ensures in
     record {
-      refused = sym (fixed_after d cs (sym c.in-ok-check-budgets.ensures) ∙ in_total d cs _ _ (c.load-of-sum.ensures ∙ same) (ap (λ b. b.0) c.new-tally.ensures.1) c.if-sum-tally.false);
+      refused = sym (fixed_after d cs (sym c.in_ok-check_budgets.ensures) ∙ in_total d cs _ _ (c.load_of-sum.ensures ∙ same) (ap (λ b. b.0) c.new-tally.ensures.1) c.if-sum-tally.false);
       made = record {
         fresh = record { weights = c.new-tally.ensures.0; total = ap (λ b. b.0) c.new-tally.ensures.1; longest = c.new-tally.ensures.2 };
-        says = λ i run. ap (λ w. cond (eqb w 0) false (ltb run (ticks_in c.slots-of-slots.result i))) (c.new-tally.ensures.0 i)
-            ∙ ap (λ b. cond (eqb (rule_weight d i) 0) false (ltb run b)) (c.slots-of-slots.ensures i);
+        says = λ i run. ap (λ w. cond (eqb w 0) false (ltb run (ticks_in c.slots_of-slots.result i))) (c.new-tally.ensures.0 i)
+            ∙ ap (λ b. cond (eqb (rule_weight d i) 0) false (ltb run b)) (c.slots_of-slots.ensures i);
       };
     }

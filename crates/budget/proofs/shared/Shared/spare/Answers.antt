@@ -24,7 +24,7 @@ nothing s i w e z = sym (cond-true (eqb (weights_of s.tally i) 0) 0 _ (eq-eqb (w
 pub returns : goal.returns
 returns c =
     let s = c.args.self.now in
-    let is = divided s c.args.task c.left-by-others.result.0 c.weight-weight.result.0 c.weight-weight.ensures c.if-weight-eq0.false c.left-by-others.ensures in
+    let is = divided s c.args.task c.left_by_others.result.0 c.weight-weight.result.0 c.weight-weight.ensures c.if-weight-eq0.false c.left_by_others.ensures in
     record { is = is; tied = tied_to s c.args.task _ is }
 
 pub returns-then-weight-eq0 : goal.returns-then-weight-eq0

@@ -8,8 +8,8 @@ use Rattle.budget.specs.Loads.{load_same}
 use Rattle.budget.proofs.Tallies.{shared_kept}
 use Rattle.budget.proofs.shared_rule.SharedRule.grant.Goals as goal
 
-pub invariant-of-self : goal.invariant-of-self
-invariant-of-self c =
+pub invariant_of-self : goal.invariant_of-self
+invariant_of-self c =
     let t = c.args.self.now.tally in
     let u = c.raise.new.self in
     let i = c.args.task in
@@ -19,7 +19,7 @@ invariant-of-self c =
     let same : load (weights_of u) (longest_of u) ≡ load (weights_of t) (raised (longest_of t) i r) =
     load_same (weights_of u) (weights_of t) (longest_of u) (raised (longest_of t) i r) (λ k. ap (λ ws. weight_in ws k) c.raise.ensures.same.1) c.raise.ensures.longest in
     let total : u.total.0 ≡ t.total.0 = ap (λ b. b.0) c.raise.ensures.same.2 in
-    (omega arith, tt)
+    record { within = omega arith }
 
 pub returns-then-may : goal.returns-then-may
 returns-then-may c = record { granted = search rules; policy = shared_kept c.args.self.now.tally c.raise.new.self c.raise.ensures.same.1 c.raise.ensures.same.2 }

@@ -5,8 +5,8 @@ use Rattle.budget.specs.OfRules.{weights_of, longest_of}
 use Rattle.budget.specs.Loads.{part, others_most, others_counted}
 use Rattle.budget.proofs.tally.Tally.left_by_others.Goals as goal
 
-pub overflow-sub-left : goal.overflow-sub-left
-overflow-sub-left c =
+pub overflow_sub-left : goal.overflow_sub-left
+overflow_sub-left c =
     let t = c.args.self.now in
     let few : c.loop-k.k < 32 = omega (arith, t.few) in
     let whole = sum_part 32 c.loop-k.k (part (weights_of t) (longest_of t) c.args.task) few in

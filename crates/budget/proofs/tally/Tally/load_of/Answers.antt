@@ -6,14 +6,14 @@ use Rattle.budget.specs.Slots.{ticks_in}
 use Rattle.budget.specs.Loads.{load_counted}
 use Rattle.budget.proofs.tally.Tally.load_of.Goals as goal
 
-pub overflow-mul-sum : goal.overflow-mul-sum
-overflow-mul-sum c =
+pub overflow_mul-sum : goal.overflow_mul-sum
+overflow_mul-sum c =
     let k = c.loop-k.k in
     let small : weights_of c.args.self.now (suc k) * ticks_in c.args.runs.now (suc k) ≤ 1000000 * 100000 = mul-le-mul (c.requires.weights (suc k)) (c.requires.runs (suc k)) in
     record { fits = omega arith }
 
-pub overflow-add-sum : goal.overflow-add-sum
-overflow-add-sum c =
+pub overflow_add-sum : goal.overflow_add-sum
+overflow_add-sum c =
     let k = c.loop-k.k in
     let small : weights_of c.args.self.now (suc k) * ticks_in c.args.runs.now (suc k) ≤ 1000000 * 100000 = mul-le-mul (c.requires.weights (suc k)) (c.requires.runs (suc k)) in
     record { fits = omega (arith, c.loop-k.invariant.1, c.args.self.now.few) }

@@ -4,12 +4,13 @@ use Rattle.table.proofs.Tables.{table_accepted}
 use Rattle.budget.proofs.Weighing.{rule_weight_past}
 use Rattle.budget.proofs.tally.Tally.new.Goals as goal
 
-pub invariant-of-result : goal.invariant-of-result
-invariant-of-result c =
-    let t = c.args.table.now in (
-      omega (arith, (table_accepted t).few, c.count.ensures),
-      (λ k h. c.rule-weights.ensures (suc k) ∙ rule_weight_past (draft_of t) k (omega (arith, c.count.ensures)), tt),
-    )
+pub invariant_of-result : goal.invariant_of-result
+invariant_of-result c =
+    let t = c.args.table.now in
+    record {
+      few = omega (arith, (table_accepted t).few, c.count.ensures);
+      absent = λ k h. c.rule_weights.ensures (suc k) ∙ rule_weight_past (draft_of t) k (omega (arith, c.count.ensures));
+    }
 
 pub returns : goal.returns
-returns c = (c.rule-weights.ensures, c.total.ensures, c.no-runs.ensures.zero, c.count.ensures)
+returns c = (c.rule_weights.ensures, c.total.ensures, c.no_runs.ensures.zero, c.count.ensures)

@@ -3,8 +3,8 @@ use Rattle.budget.specs.OfRules.{weights_of, longest_of}
 use Rattle.budget.specs.Loads.{load_term}
 use Rattle.budget.proofs.tally.Tally.part.Goals as goal
 
-pub overflow-mul-result : goal.overflow-mul-result
-overflow-mul-result c =
+pub overflow_mul-result : goal.overflow_mul-result
+overflow_mul-result c =
     let t = c.args.self.now in
     let few : c.args.k < 32 = omega (arith, t.few, c.requires.known) in
     let small = load_term (weights_of t) (longest_of t) c.args.k few in

@@ -13,8 +13,8 @@ use Rattle.dispatch.proofs.dispatcher.Dispatcher.age.Goals as goal
 laws : (g : given.Over) (x : g.row.O.Denot) → TieLaws (g.O.TieOrder.ahead x)
 laws g x = record { one_way = g.met.O.TieOrder.one_way x; transitive = g.met.O.TieOrder.transitive x; refines_deadlines = g.met.O.TieOrder.refines_deadlines x }
 
-pub overflow-sub-result : goal.overflow-sub-result
-overflow-sub-result g c =
+pub overflow_sub-result : goal.overflow_sub-result
+overflow_sub-result g c =
     let x = c.args.self.now in
     let there = seat_slot x.core.jobs c.args.task c.in-Some.job (sym c.in-Some.ensures.is) in
     x.arrived (c.args.task - 1) c.in-Some.job there.1

@@ -13,11 +13,11 @@ laws g x = record { one_way = g.met.O.TieOrder.one_way x; transitive = g.met.O.T
 pub returns : goal.returns
 returns g c =
     let x = c.args.self.now in
-    let e = c.arrive-parts.ensures in
+    let e = c.arrive_parts.ensures in
     record {
       fixed = (refl, refl, refl);
       answer = e.answer;
       state = e.state;
       same = e.same;
-      log = λ kind. arrival_extends kind (draft_of x.table) (table_accepted x.table) (g.O.TieOrder.ahead x.order.now) (laws g x.order.now) (g.R.Rule.meaning x.rule) (state_of x.core) (state_of c.arrive-parts.new.core) c.args.task c.arrive-parts.result e.answer e.state;
+      log = λ kind. arrival_extends kind (draft_of x.table) (table_accepted x.table) (g.O.TieOrder.ahead x.order.now) (laws g x.order.now) (g.R.Rule.meaning x.rule) (state_of x.core) (state_of c.arrive_parts.new.core) c.args.task c.arrive_parts.result e.answer e.state;
     }

@@ -19,7 +19,7 @@ returns-then-task-eq0 g c =
 pub returns : goal.returns
 returns g c =
     let x = c.args.self.now in
-    let is = c.job-at.ensures ∙ sym (seat_at x.core.jobs c.args.task (omega arith)) in
+    let is = c.job_at.ensures ∙ sym (seat_at x.core.jobs c.args.task (omega arith)) in
     record {
       is = is;
       log = λ kind log p. is ∙ (ties_stand kind (draft_of x.table) (g.O.TieOrder.ahead x.order.now) log (g.R.Rule.meaning x.rule) (state_of x.core) p).job_is c.args.task;

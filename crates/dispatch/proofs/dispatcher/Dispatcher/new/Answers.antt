@@ -11,10 +11,10 @@ use Rattle.dispatch.proofs.dispatcher.Dispatcher.new.Goals as goal
 keeps : (g : given.Over) (x : g.row.R.Denot) → Keeps lawful (g.R.Rule.meaning x)
 keeps g x = record { law = record { bounded = g.met.R.Rule.bounded x; silent = g.met.R.Rule.silent x; fits = g.met.R.Rule.fits x }; exactly = tt }
 
-pub invariant-of-result : goal.invariant-of-result
-invariant-of-result g c =
+pub invariant_of-result : goal.invariant_of-result
+invariant_of-result g c =
     let f = c.empty.ensures.fine (draft_of c.args.table.now) in
-    (f.agrees, (f.owned, (f.arrived, (f.run, (f.lasts, (f.clocked, (f.slots, (f.seats, tt))))))))
+    record { agrees = f.agrees; owned = f.owned; arrived = f.arrived; run = f.run; lasts = f.lasts; clocked = f.clocked; slots = f.slots; seats = f.seats }
 
 pub returns : goal.returns
 returns g c =
@@ -23,7 +23,7 @@ returns g c =
     let n : Meaning = g.R.Rule.meaning c.rest.new.self in
     let e = c.empty.ensures in
     let b = c.empty.result.foreign in
-    let foreign = e.foreign ∙ c.is-foreign-foreign.ensures in
+    let foreign = e.foreign ∙ c.is_foreign-foreign.ensures in
     let fresh = e.state ∙ ap new_state (sym e.foreign) in
     let produced = λ (kind : Kind) (k : Keeps kind n). making_produced kind d (g.O.TieOrder.ahead c.args.order.now) m n (state_of c.empty.result) b k c.rest.ensures.rested foreign fresh in
     record {

@@ -17,8 +17,8 @@ keeps g x = record { law = record { bounded = g.met.R.Rule.bounded x; silent = g
 pub returns : goal.returns
 returns g c =
     let x = c.args.self.now in
-    let e = c.tick-parts.ensures in
-    let extends = λ (kind : Kind). tick_extends kind (draft_of x.table) (table_accepted x.table) (g.O.TieOrder.ahead x.order.now) (laws g x.order.now) (g.R.Rule.meaning x.rule) (g.R.Rule.meaning c.tick-parts.new.rule) (state_of x.core) (state_of c.tick-parts.new.core) c.args.mark c.tick-parts.result e.answer e.state e.rule in
+    let e = c.tick_parts.ensures in
+    let extends = λ (kind : Kind). tick_extends kind (draft_of x.table) (table_accepted x.table) (g.O.TieOrder.ahead x.order.now) (laws g x.order.now) (g.R.Rule.meaning x.rule) (g.R.Rule.meaning c.tick_parts.new.rule) (state_of x.core) (state_of c.tick_parts.new.core) c.args.mark c.tick_parts.result e.answer e.state e.rule in
     record {
       fixed = (refl, refl);
       answer = e.answer;
@@ -26,6 +26,6 @@ returns g c =
       rule = e.rule;
       policy = e.policy;
       same = e.same;
-      log = extends lawful (keeps g c.tick-parts.new.rule);
+      log = extends lawful (keeps g c.tick_parts.new.rule);
       kinds = extends;
     }

@@ -10,7 +10,7 @@ returns-in-Some g c =
     let x = c.args.dispatcher.now in
     let needs = ticks_in c.args.self.now.slots in
     let jobs = (state_of x.core).job in
-    c.mark-at.ensures
+    c.mark_at.ensures
     ∙ ap (λ n. mark_at n c.job.result) c.need.ensures
     ∙ ap (mark_at (needs c.in-Some.task)) c.job.ensures.is
     ∙ ap (mark_by needs jobs) (c.in-Some.ensures NotDone)

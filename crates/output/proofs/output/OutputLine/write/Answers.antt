@@ -5,7 +5,7 @@ use Rattle.output.proofs.output.OutputLine.write.Goals as goal
 
 pub returns-in-Faulted : goal.returns-in-Faulted
 returns-in-Faulted c =
-    let w = c.put-fault-length in
+    let w = c.put_fault-length in
     record {
       length = rw (le-leb 40 (length c.args.out.now) (omega arith), c.in-Faulted.is, w.ensures.behind);
       bytes = rw (le-leb 40 (length c.args.out.now) (omega arith), c.in-Faulted.is) w.ensures.page;

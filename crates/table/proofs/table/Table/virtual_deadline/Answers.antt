@@ -3,8 +3,8 @@ use Rattle.table.specs.Tables.{draft_of}
 use Rattle.table.proofs.Tables.{table_accepted, task_sound}
 use Rattle.table.proofs.table.Table.virtual_deadline.Goals as goal
 
-pub overflow-mul-result : goal.overflow-mul-result
-overflow-mul-result c =
+pub overflow_mul-result : goal.overflow_mul-result
+overflow_mul-result c =
     let t = c.args.self.now in
     let a = table_accepted t in
     let s = task_sound (draft_of t) a c.args.number _ (sym c.in-Some.ensures) in

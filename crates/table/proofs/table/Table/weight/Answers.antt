@@ -3,5 +3,5 @@ use Rattle.table.specs.Tables.{draft_of}
 use Rattle.table.proofs.Tables.{table_accepted, task_sound}
 use Rattle.table.proofs.table.Table.weight.Goals as goal
 
-pub nonzero-div-result : goal.nonzero-div-result
-nonzero-div-result c = let t = c.args.self.now in (task_sound (draft_of t) (table_accepted t) c.args.number _ (sym c.in-Some.ensures)).period_low
+pub nonzero_div-result : goal.nonzero_div-result
+nonzero_div-result c = let t = c.args.self.now in (task_sound (draft_of t) (table_accepted t) c.args.number _ (sym c.in-Some.ensures)).period_low
