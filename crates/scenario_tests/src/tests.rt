@@ -308,5 +308,5 @@ fn short_buffers(rt: HostRuntime) {
     assert_eq!(rt; &out, &[b'#'; 39]);
     assert_eq!(rt; write_number(1_234, &mut out, 36), None);
     assert_eq!(rt; write_number(1_234, &mut out, 35), Some(39));
-    assert_eq!(rt; &out[34..39], b"#1234");
+    assert_eq!(rt; &out[34..39], b"#1234".as_slice());
 }

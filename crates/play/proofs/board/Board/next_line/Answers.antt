@@ -10,7 +10,7 @@ use Rattle.play.proofs.board.Board.next_line.Goals as goal
 pub returns-then-self : goal.returns-then-self
 returns-then-self c =
     let b = c.ready.new.self in
-    let waits = c.in-default.ensures in
+    let waits = c.in_default.ensures in
     let text = text_of b.reader in
     let s = place_of b.reader in
     let empty : to_come b ≡ [] =

@@ -7,19 +7,19 @@ use Rattle.play.proofs.Boarding.{left_halts, left_goes}
 use Rattle.play.proofs.Ticked.{switch_first, tick_first}
 use Rattle.play.proofs.board.Board.tick.Goals as goal
 
-pub returns-in-default : goal.returns-in-default
-returns-in-default c =
+pub returns-in_default : goal.returns-in_default
+returns-in_default c =
     let x = c.args.self.now in
     record {
-      same = ap (λ ls. listed x.held ++ ls) (left_halts x.over (text_of x.reader) (place_of x.reader) x.left (stage_of x.course) (stage_of c.tick.new.self) c.requires.some c.in-default.ensures);
+      same = ap (λ ls. listed x.held ++ ls) (left_halts x.over (text_of x.reader) (place_of x.reader) x.left (stage_of x.course) (stage_of c.tick.new.self) c.requires.some c.in_default.ensures);
       held = c.requires.held;
       left = refl;
       over = refl;
       turns_left = refl;
     }
 
-pub returns-in-Some-switch-line : goal.returns-in-Some-switch-line
-returns-in-Some-switch-line c =
+pub returns-in-Some-switch_line : goal.returns-in-Some-switch_line
+returns-in-Some-switch_line c =
     let x = c.args.self.now in
     let a = c.in-Some.answer in
     let text = text_of x.reader in
@@ -27,8 +27,8 @@ returns-in-Some-switch-line c =
     let rest = upcoming x.over text place (x.left - 1) (stage_of c.tick.new.self) in
     ap (λ o. listed o ++ upcoming x.over text place x.left (stage_of x.course)) c.requires.held
     ∙ left_goes x.over text place x.left (stage_of x.course) (stage_of c.tick.new.self) a c.requires.some c.in-Some.ensures
-    ∙ switch_first a c.in-Some-switch-line.switch rest c.in-Some-switch-line.ensures
-    ∙ ap (λ l. c.in-Some-switch-line.switch ∷ (l ∷ rest)) (sym c.tick-line-line.ensures)
+    ∙ switch_first a c.in-Some-switch_line.switch rest c.in-Some-switch_line.ensures
+    ∙ ap (λ l. c.in-Some-switch_line.switch ∷ (l ∷ rest)) (sym c.tick_line-line.ensures)
 
 pub returns-in-None : goal.returns-in-None
 returns-in-None c =
@@ -40,5 +40,5 @@ returns-in-None c =
     ap (λ o. listed o ++ upcoming x.over text place x.left (stage_of x.course)) c.requires.held
     ∙ left_goes x.over text place x.left (stage_of x.course) (stage_of c.tick.new.self) a c.requires.some c.in-Some.ensures
     ∙ tick_first a rest c.in-None.ensures
-    ∙ ap (λ l. l ∷ rest) (sym c.tick-line-line.ensures)
-    ∙ ap (λ o. c.tick-line-line.result ∷ (listed o ++ rest)) (sym c.requires.held)
+    ∙ ap (λ l. l ∷ rest) (sym c.tick_line-line.ensures)
+    ∙ ap (λ o. c.tick_line-line.result ∷ (listed o ++ rest)) (sym c.requires.held)

@@ -9,8 +9,8 @@ use Rattle.play.specs.Views.{draft_in}
 use Rattle.play.proofs.Coursing.{small_line, fixed_made, fixed_refused}
 use Rattle.play.proofs.course.Course.fix.Goals as goal
 
-pub table-fault-requires : goal.table-fault-requires
-table-fault-requires c =
+pub table_fault-requires : goal.table_fault-requires
+table_fault-requires c =
     let o = c.in-Table.outline in
     small_line (draft_in o) c.in-Err.refusal (omega (arith, length-take-le o.count o.tasks (omega (arith, o.few, o.long)), o.few)) c.in-Err.ensures.verdict
 
@@ -26,5 +26,5 @@ returns-in-Ok-fixed c =
 
 pub returns-in-Err-fixed : goal.returns-in-Err-fixed
 returns-in-Err-fixed c =
-    ap Err (c.rule-fault.ensures ∙ ap (rule_fault c.args.number) c.number.ensures)
+    ap Err (c.rule_fault.ensures ∙ ap (rule_fault c.args.number) c.number.ensures)
     ∙ fixed_refused c.args.number c.args.budgets.now _ _ _ _ _ c.in-Table.ensures.1 c.in-Ok.ensures.verdict (draft_of c.in-Ok.table) c.in-Err-fixed.refusal c.in-Ok.ensures.parts c.in-Err-fixed.ensures.refused

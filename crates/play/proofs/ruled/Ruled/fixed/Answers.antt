@@ -6,5 +6,5 @@ use Rattle.play.proofs.ruled.Ruled.fixed.Goals as goal
 
 pub returns : goal.returns
 returns c =
-    let e = c.in-ok-rule.ensures in
-    record { refused = e.refused; made = (refl, fun_ext (new_fixed (draft_of c.args.table) c.args.budgets.now c.in-ok-rule.rule e.made)) }
+    let e = c.in_ok-rule.ensures in
+    record { refused = e.refused; made = (refl, fun_ext (new_fixed (draft_of c.args.table) c.args.budgets.now c.in_ok-rule.rule e.made)) }
