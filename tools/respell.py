@@ -17,6 +17,7 @@ WORD = r"[^\s(){}.;,@\"«»\[\]\\`]+"
 NAME = re.compile(r"[A-Za-z][\w']*(?:-[\w']+)+\Z")
 TOKEN = re.compile(r"--[^\n]*|\"(?:[^\"\\]|\\.)*\"|«[^»]*»|" + WORD)
 RUST = re.compile(r"//[^\n]*|\"(?:[^\"\\]|\\.)*\"|b?'(?:\\.|[^'\\])'|" + WORD)
+ALIAS = re.compile(r"^ghost use [^;]*;", re.M)
 USE = re.compile(r"\buse ((?:" + WORD + r"\.)*" + WORD + r")\.\{([^}]*)\}")
 DECLARED = re.compile(r"^\s*(?:(?:pub|abbrev|unfoldable|record|data|module)\s+)*(" + WORD + r")[^\n]*?\s:", re.M)
 MADE = re.compile(r"^\s*(?:(?:pub|abbrev)\s+)*(" + WORD + r") : goal\.", re.M)
@@ -115,6 +116,9 @@ def main():
         made = set(MADE.findall(text))
         declared |= {n for n in DECLARED.findall(text) if NAME.match(n) and n not in made}
     names = {n: spelled(n) for n in declared}
+    for path in files(".rt"):
+        for item in ALIAS.findall(read(path)):
+            names.update((n, spelled(n)) for n in re.findall(r" as (\S+?)(?=[,}])", item) if NAME.match(n))
     plain = collections.defaultdict(set)
     for path, text in texts.items():
         for m in TOKEN.finditer(text):

@@ -2,7 +2,7 @@ ghost use Rattle.std.specs.Prelude.{◌≡◌, Some, Ok, Err};
 ghost use Rattle.table.specs.Tables.{draft_of};
 ghost use Rattle.runs.specs.declared.entry.Entry.{Entry};
 ghost use Rattle.runs.specs.Arrivals.{arrival, after_arrival};
-ghost use Rattle.runs.specs.Ticking.{tick as the-tick, after_tick, RuleAfter};
+ghost use Rattle.runs.specs.Ticking.{tick as the_tick, after_tick, RuleAfter};
 ghost use Rattle.runs.specs.Produced.{Kind, lawful, Keeps};
 ghost use Rattle.runs.specs.Bounds.{Extends};
 ghost use Rattle.dispatch.specs.Cores.{state_of};
@@ -31,7 +31,7 @@ impl<'o, R: Rule, O: TieOrder> Dispatcher<'o, R, O> {
     // One tick passes; the mark says whether the job that it runs is then done.
     pub fn tick(&mut self, mark: Mark) -> Result<Answer, TickRefusal>
         ensures fixed { (self.new.table ≡ self.old.table) × (self.new.order.now ≡ self.old.order.now) }
-        ensures answer { result ≡ the-tick (draft_of self.old.table) (O.TieOrder.ahead self.old.order.now) (R.Rule.meaning self.old.rule).yes (state_of self.old.core) mark }
+        ensures answer { result ≡ the_tick (draft_of self.old.table) (O.TieOrder.ahead self.old.order.now) (R.Rule.meaning self.old.rule).yes (state_of self.old.core) mark }
         ensures state { state_of self.new.core ≡ after_tick (draft_of self.old.table) (O.TieOrder.ahead self.old.order.now) (R.Rule.meaning self.old.rule).yes (state_of self.old.core) mark }
         ensures rule { RuleAfter (draft_of self.old.table) (O.TieOrder.ahead self.old.order.now) (state_of self.old.core) mark (R.Rule.meaning self.old.rule) (R.Rule.meaning self.new.rule) }
         ensures policy { R.Rule.policy self.new.rule ≡ R.Rule.policy self.old.rule }

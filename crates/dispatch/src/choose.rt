@@ -1,6 +1,6 @@
 ghost use Rattle.std.specs.Prelude.{◌≡◌, ◌^◌, None};
 ghost use Rattle.table.specs.Tables.{draft_of};
-ghost use Rattle.runs.specs.Choices.{turn as the-turn};
+ghost use Rattle.runs.specs.Choices.{turn as the_turn};
 ghost use Rattle.runs.specs.Slots.{seat};
 ghost use Rattle.dispatch.specs.Cores.{Fine, Offered, Owned, ArrivedBy, masked};
 ghost use Rattle.dispatch.specs.Turns.{turn_taken};
@@ -25,7 +25,7 @@ pub(crate) fn choose<O: TieOrder>(
     requires offered { Offered mask jobs.now }
     requires owned { Owned (draft_of table.now).count jobs.now }
     requires arrived { ArrivedBy (2 ^ 40) jobs.now }
-    ensures { turn_taken result ≡ the-turn (O.TieOrder.ahead order.now) mode (draft_of table.now) (masked mask jobs.now) }
+    ensures { turn_taken result ≡ the_turn (O.TieOrder.ahead order.now) mode (draft_of table.now) (masked mask jobs.now) }
 {
     let rivals = Rivals { table, jobs, mode };
     let Some(slot) = first(order, &rivals, mask) else {
@@ -48,7 +48,7 @@ pub(crate) fn choose_pending<O: TieOrder>(
     mode: Mode,
 ) -> Option<Taken>
     requires { Fine (draft_of table.now) core.now }
-    ensures { turn_taken result ≡ the-turn (O.TieOrder.ahead order.now) mode (draft_of table.now) (seat core.now.jobs) }
+    ensures { turn_taken result ≡ the_turn (O.TieOrder.ahead order.now) mode (draft_of table.now) (seat core.now.jobs) }
 {
     choose(table, order, &core.jobs, mode, core.pending)
 }

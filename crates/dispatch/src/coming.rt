@@ -1,7 +1,7 @@
 ghost use Rattle.std.specs.Prelude.{◌≡◌};
 ghost use Rattle.table.specs.Tables.{draft_of};
 ghost use Rattle.runs.specs.declared.call.Mark.{Mark};
-ghost use Rattle.runs.specs.Ticking.{tick as the-tick};
+ghost use Rattle.runs.specs.Ticking.{tick as the_tick};
 ghost use Rattle.dispatch.specs.Cores.{Fine, state_of};
 ghost use Rattle.dispatch.specs.Questions.{task_run};
 
@@ -23,7 +23,7 @@ pub(crate) fn coming_parts<R: Rule, O: TieOrder>(
     core: &Core,
 ) -> Option<u32>
     requires { Fine (draft_of table.now) core.now }
-    ensures { (mark : Mark) → result ≡ task_run (the-tick (draft_of table.now) (O.TieOrder.ahead order.now) (R.Rule.meaning rule.now).yes (state_of core.now) mark) }
+    ensures { (mark : Mark) → result ≡ task_run (the_tick (draft_of table.now) (O.TieOrder.ahead order.now) (R.Rule.meaning rule.now).yes (state_of core.now) mark) }
 {
     if core.foreign {
         return None;

@@ -3,7 +3,7 @@ ghost use Rattle.table.specs.Readers.{level_of};
 ghost use Rattle.table.specs.Tables.{draft_of};
 ghost use Rattle.table.specs.Tasks.{virtual_deadline};
 ghost use Rattle.runs.specs.States.{known, the_task, within as is_Within, is_high};
-ghost use Rattle.runs.specs.Choices.{deadline as the-deadline, contender as the-contender};
+ghost use Rattle.runs.specs.Choices.{deadline as the_deadline, contender as the_contender};
 
 use order::candidate::Candidate;
 use runs::answer::{Job, Mode};
@@ -62,7 +62,7 @@ pub(crate) fn is_high(criticality: Criticality) -> bool
 fn deadline(table: &Table, mode: Mode, number: u32, job: Job) -> Ticks
     requires known { known (draft_of table.now) number ≡ true }
     requires early { job.arrival.0 ≤ 2 ^ 40 }
-    ensures { result.0 ≡ the-deadline mode (draft_of table.now) number job }
+    ensures { result.0 ≡ the_deadline mode (draft_of table.now) number job }
 {
     let task = task_of(table, number);
     match mode {
@@ -90,7 +90,7 @@ fn level_of(criticality: Criticality) -> Level
 pub(crate) fn contender(table: &Table, mode: Mode, number: u32, job: Job) -> Candidate
     requires known { known (draft_of table.now) number ≡ true }
     requires early { job.arrival.0 ≤ 2 ^ 40 }
-    ensures { result ≡ the-contender mode (draft_of table.now) number job }
+    ensures { result ≡ the_contender mode (draft_of table.now) number job }
 {
     let task = task_of(table, number);
     Candidate::new(

@@ -2,8 +2,8 @@ ghost use Rattle.std.specs.Prelude.{◌≡◌, true, false, if◌then◌else◌,
 ghost use Rattle.table.specs.Tables.{draft_of};
 ghost use Rattle.runs.specs.Masks.{mask};
 ghost use Rattle.runs.specs.Slots.{seat};
-ghost use Rattle.runs.specs.Choices.{turn as the-turn};
-ghost use Rattle.runs.specs.Ticking.{drops, switches, asked, Asked, tick as the-tick, after_tick, RuleAfter};
+ghost use Rattle.runs.specs.Choices.{turn as the_turn};
+ghost use Rattle.runs.specs.Ticking.{drops, switches, asked, Asked, tick as the_tick, after_tick, RuleAfter};
 ghost use Rattle.dispatch.specs.Cores.{Fine, state_of};
 ghost use Rattle.dispatch.specs.Steps.{running};
 ghost use Rattle.dispatch.specs.Turns.{turn_of_taken};
@@ -39,11 +39,11 @@ fn decide<R: Rule, O: TieOrder>(
     first: Taken,
 ) -> Decided
     requires fine { Fine (draft_of table.now) core.old }
-    requires first { the-turn (O.TieOrder.ahead order.now) core.old.mode (draft_of table.now) (seat core.old.jobs) ≡ Some (turn_of_taken first) }
+    requires first { the_turn (O.TieOrder.ahead order.now) core.old.mode (draft_of table.now) (seat core.old.jobs) ≡ Some (turn_of_taken first) }
     ensures switched { result.switched ≡ switches (draft_of table.now) (O.TieOrder.ahead order.now) (R.Rule.meaning rule.old).yes (state_of core.old) }
     ensures dropped { result.dropped ≡ (if result.switched then mask 32 (drops (draft_of table.now) (seat core.old.jobs)) else 0) }
     ensures state { state_of core.new ≡ running (draft_of table.now) result.switched (state_of core.old) }
-    ensures taken { the-turn (O.TieOrder.ahead order.now) core.new.mode (draft_of table.now) (seat core.new.jobs) ≡ Some (turn_of_taken result.taken) }
+    ensures taken { the_turn (O.TieOrder.ahead order.now) core.new.mode (draft_of table.now) (seat core.new.jobs) ≡ Some (turn_of_taken result.taken) }
     ensures grant { Asked (asked (draft_of table.now) (O.TieOrder.ahead order.now) (state_of core.old)) (R.Rule.meaning rule.old) (R.Rule.meaning rule.new) }
     ensures policy { R.Rule.policy rule.new ≡ R.Rule.policy rule.old }
     ensures fine { Fine (draft_of table.now) core.new }
@@ -76,7 +76,7 @@ pub(crate) fn tick_parts<R: Rule, O: TieOrder>(
     mark: Mark,
 ) -> Result<Answer, TickRefusal>
     requires { Fine (draft_of table.now) core.old }
-    ensures answer { result ≡ the-tick (draft_of table.now) (O.TieOrder.ahead order.now) (R.Rule.meaning rule.old).yes (state_of core.old) mark }
+    ensures answer { result ≡ the_tick (draft_of table.now) (O.TieOrder.ahead order.now) (R.Rule.meaning rule.old).yes (state_of core.old) mark }
     ensures state { state_of core.new ≡ after_tick (draft_of table.now) (O.TieOrder.ahead order.now) (R.Rule.meaning rule.old).yes (state_of core.old) mark }
     ensures rule { RuleAfter (draft_of table.now) (O.TieOrder.ahead order.now) (state_of core.old) mark (R.Rule.meaning rule.old) (R.Rule.meaning rule.new) }
     ensures policy { R.Rule.policy rule.new ≡ R.Rule.policy rule.old }

@@ -6,8 +6,8 @@ ghost use Rattle.runs.specs.declared.call.Mark.{Mark};
 ghost use Rattle.runs.specs.declared.entry.Entry.{Entry};
 ghost use Rattle.runs.specs.States.{period};
 ghost use Rattle.runs.specs.Masks.{mask};
-ghost use Rattle.runs.specs.Logs.{clock as log-clock, shown, age as log-age};
-ghost use Rattle.runs.specs.Ticking.{tick as the-tick};
+ghost use Rattle.runs.specs.Logs.{clock as log_clock, shown, age as log_age};
+ghost use Rattle.runs.specs.Ticking.{tick as the_tick};
 ghost use Rattle.runs.specs.Produced.{Kind, Produced};
 ghost use Rattle.dispatch.specs.Cores.{state_of};
 ghost use Rattle.dispatch.specs.Questions.{task_run, age_at, plain, is_pending, lowest_task};
@@ -27,7 +27,7 @@ impl<'o, R: Rule, O: TieOrder> Dispatcher<'o, R, O> {
     // How many ticks were accepted.
     pub fn clock(&self) -> Ticks
         ensures is { result.0 ≡ (state_of self.now.core).clock }
-        ensures log { (kind : Kind) (log : List Entry) → Produced kind (draft_of self.now.table) (O.TieOrder.ahead self.now.order.now) log (R.Rule.meaning self.now.rule) (state_of self.now.core) → result.0 ≡ log-clock log }
+        ensures log { (kind : Kind) (log : List Entry) → Produced kind (draft_of self.now.table) (O.TieOrder.ahead self.now.order.now) log (R.Rule.meaning self.now.rule) (state_of self.now.core) → result.0 ≡ log_clock log }
     {
         self.core.clock
     }
@@ -59,7 +59,7 @@ impl<'o, R: Rule, O: TieOrder> Dispatcher<'o, R, O> {
     // The age of a task's pending job: the ticks since its arrival. It is always below the task's period.
     pub fn age(&self, task: u32) -> Option<Ticks>
         ensures is { result ≡ age_at (state_of self.now.core).clock ((state_of self.now.core).job task) }
-        ensures log { (kind : Kind) (log : List Entry) → Produced kind (draft_of self.now.table) (O.TieOrder.ahead self.now.order.now) log (R.Rule.meaning self.now.rule) (state_of self.now.core) → (plain result ≡ log-age task log) × ((a : Ticks) → result ≡ Some a → a.0 < period (draft_of self.now.table) task) }
+        ensures log { (kind : Kind) (log : List Entry) → Produced kind (draft_of self.now.table) (O.TieOrder.ahead self.now.order.now) log (R.Rule.meaning self.now.rule) (state_of self.now.core) → (plain result ≡ log_age task log) × ((a : Ticks) → result ≡ Some a → a.0 < period (draft_of self.now.table) task) }
     {
         match self.job(task) {
             Some(job) => Some(Ticks(self.core.clock.0 - job.arrival.0)),
@@ -69,7 +69,7 @@ impl<'o, R: Rule, O: TieOrder> Dispatcher<'o, R, O> {
 
     // The task that the coming tick would run: none if it would be idle or refused.
     pub fn coming(&self) -> Option<u32>
-        ensures { (mark : Mark) → result ≡ task_run (the-tick (draft_of self.now.table) (O.TieOrder.ahead self.now.order.now) (R.Rule.meaning self.now.rule).yes (state_of self.now.core) mark) }
+        ensures { (mark : Mark) → result ≡ task_run (the_tick (draft_of self.now.table) (O.TieOrder.ahead self.now.order.now) (R.Rule.meaning self.now.rule).yes (state_of self.now.core) mark) }
     {
         coming_parts(&self.table, self.order, &self.rule, &self.core)
     }

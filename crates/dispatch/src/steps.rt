@@ -3,7 +3,7 @@ ghost use Rattle.table.specs.Tables.{draft_of};
 ghost use Rattle.runs.specs.Masks.{mask};
 ghost use Rattle.runs.specs.Slots.{seat};
 ghost use Rattle.runs.specs.States.{known, the_task};
-ghost use Rattle.runs.specs.Ticking.{drops, ending as the-ending, falls_short as is-short, none_pending, LetRest, Asked, asked_by, denied as is-denied};
+ghost use Rattle.runs.specs.Ticking.{drops, ending as the_ending, falls_short as is_short, none_pending, LetRest, Asked, asked_by, denied as is_denied};
 ghost use Rattle.dispatch.specs.Cores.{Fine, state_of};
 ghost use Rattle.dispatch.specs.Steps.{running, served_state, settled, Writes, rest_of};
 ghost use Rattle.dispatch.specs.Turns.{turn_of_taken};
@@ -47,7 +47,7 @@ fn asks(table: &Table, mode: Mode, first: Taken) -> bool
 pub(crate) fn denied<R: Rule>(table: &Table, rule: &mut R, mode: Mode, first: Taken) -> bool
     requires { known (draft_of table.now) first.number ≡ true }
     ensures grant { Asked (asked_by (draft_of table.now) mode (Some (turn_of_taken first))) (R.Rule.meaning rule.old) (R.Rule.meaning rule.new) }
-    ensures is { result ≡ is-denied (R.Rule.meaning rule.old).yes (asked_by (draft_of table.now) mode (Some (turn_of_taken first))) }
+    ensures is { result ≡ is_denied (R.Rule.meaning rule.old).yes (asked_by (draft_of table.now) mode (Some (turn_of_taken first))) }
     ensures policy { R.Rule.policy rule.new ≡ R.Rule.policy rule.old }
 {
     if asks(table, mode, first) {
@@ -60,7 +60,7 @@ pub(crate) fn denied<R: Rule>(table: &Table, rule: &mut R, mode: Mode, first: Ta
 // Whether a grant would be denied.
 pub(crate) fn would_deny<R: Rule>(table: &Table, rule: &R, mode: Mode, first: Taken) -> bool
     requires { known (draft_of table.now) first.number ≡ true }
-    ensures { result ≡ is-denied (R.Rule.meaning rule.now).yes (asked_by (draft_of table.now) mode (Some (turn_of_taken first))) }
+    ensures { result ≡ is_denied (R.Rule.meaning rule.now).yes (asked_by (draft_of table.now) mode (Some (turn_of_taken first))) }
 {
     if asks(table, mode, first) {
         !rule.ask(first.number, first.job.run)
@@ -85,7 +85,7 @@ pub(crate) fn switch(table: &Table, core: &mut Core) -> u32
 
 // Whether a job in this mode has had all that it gets.
 fn falls_short(criticality: Criticality, mode: Mode, run: Ticks) -> bool
-    ensures { result ≡ is-short mode criticality run.0 }
+    ensures { result ≡ is_short mode criticality run.0 }
 {
     match mode {
         Mode::Low => false,
@@ -98,7 +98,7 @@ fn falls_short(criticality: Criticality, mode: Mode, run: Ticks) -> bool
 
 // How a job of the task ends, if it does, once it has run so far.
 fn ending(task: Task, mode: Mode, mark: Mark, run: Ticks) -> Option<Ending>
-    ensures { result ≡ the-ending task mode mark run.0 }
+    ensures { result ≡ the_ending task mode mark run.0 }
 {
     match mark {
         Mark::Done => Some(Ending::Done),
@@ -129,7 +129,7 @@ pub(crate) fn serve(table: &Table, core: &mut Core, taken: Taken, mark: Mark) ->
     requires fine { Fine (draft_of table.now) core.old }
     requires pending { seat core.old.jobs taken.number ≡ Some taken.job }
     requires early { core.old.clock.0 < 2 ^ 40 }
-    ensures ending { result ≡ the-ending (the_task (draft_of table.now) taken.number) core.old.mode mark (taken.job.run.0 + 1) }
+    ensures ending { result ≡ the_ending (the_task (draft_of table.now) taken.number) core.old.mode mark (taken.job.run.0 + 1) }
     ensures state { state_of core.new ≡ served_state (draft_of table.now) mark (state_of core.old) (turn_of_taken taken) }
     ensures fine { Fine (draft_of table.now) core.new }
 {

@@ -1,5 +1,5 @@
 ghost use Rattle.std.specs.Prelude.{◌≡◌, ℕ, ◌<◌, true, false, ◌∷◌, Some, None, Ok, Err};
-ghost use Rattle.scenario.specs.Left.{first as first_of, others as others-of};
+ghost use Rattle.scenario.specs.Left.{first as first_of, others as others_of};
 ghost use Rattle.transcript.specs.Ages.{StaysYoung};
 ghost use Rattle.transcript.specs.Transcripts.{transcript};
 ghost use Rattle.play.specs.Boards.{to_come, turns, Readied, pulled, pulled_bytes, left_behind, ShortLine};
@@ -99,7 +99,7 @@ impl<'a> Board<'a> {
     // The next line of the transcript; none at the end.
     pub fn next_line(&mut self) -> Option<OutputLine>
         ensures line { result ≡ first_of (to_come self.old) }
-        ensures rest { to_come self.new ≡ others-of (to_come self.old) }
+        ensures rest { to_come self.new ≡ others_of (to_come self.old) }
     {
         loop {
             if let Some(line) = self.ready() {

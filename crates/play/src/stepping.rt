@@ -3,7 +3,7 @@ ghost use Rattle.scenario.specs.Items.{right_count};
 ghost use Rattle.scenario.specs.Shown.{shown};
 ghost use Rattle.transcript.specs.Policies.{shared_policy};
 ghost use Rattle.transcript.specs.Stages.{Stage, tabling, ruled};
-ghost use Rattle.transcript.specs.Steps.{silent as in-silence, on_opening, on_rule, on_show, add_task, accepting, make_fixed, make_ceiling, arrive as arrives, run as runs_on, step};
+ghost use Rattle.transcript.specs.Steps.{silent as in_silence, on_opening, on_rule, on_show, add_task, accepting, make_fixed, make_ceiling, arrive as arrives, run as runs_on, step};
 ghost use Rattle.play.specs.Views.{tasks_of};
 ghost use Rattle.play.specs.Courses.{stage_of, result_of, Stands, started, TicksOn};
 
@@ -41,7 +41,7 @@ impl Course {
     // The S line.
     fn open(&mut self, number: u32, outline: Outline) -> Result<Printed, Fault>
         requires { tasks_of outline ≡ [] }
-        ensures { result_of result (stage_of self.new) ≡ on_opening number (in-silence (tabling outline.scale outline.total outline.factor [])) (stage_of self.old) }
+        ensures { result_of result (stage_of self.new) ≡ on_opening number (in_silence (tabling outline.scale outline.total outline.factor [])) (stage_of self.old) }
     {
         let Stand::Opening = self.stand() else {
             return Err(ReaderRefusal::Order.at(number));
@@ -65,7 +65,7 @@ impl Course {
 
     // The M line.
     fn share(&mut self, number: u32) -> Result<Printed, Fault>
-        ensures { result_of result (stage_of self.new) ≡ accepting number (λ d. in-silence (ruled d (shared_policy d))) (stage_of self.old) }
+        ensures { result_of result (stage_of self.new) ≡ accepting number (λ d. in_silence (ruled d (shared_policy d))) (stage_of self.old) }
     {
         let Stand::Table(outline) = self.stand() else {
             return Err(ReaderRefusal::Order.at(number));

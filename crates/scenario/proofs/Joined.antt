@@ -1,7 +1,7 @@
 -- Lines and fields joined again.
 use Rattle.std.proofs.Common.{◌≡◌, ℕ, suc, ◌+◌, ◌<◌, ◌≤◌, Bool, true, false, cond, eqb, ◌≢◌, List, [], ◌∷◌, ◌++◌, length, drop, sym, refl, ap, ◌∙◌, arith}
 use Rattle.std.proofs.lemmas.Bool.{eqb-true, eqb-false, ne_eqb}
-use Rattle.std.specs.List.{AllByRecursion as All}
+use Rattle.std.specs.List.{AllByRecursion}
 use Rattle.scenario.specs.Laws.{Without, ended, finished, LinesJoined, LinesLack, LinesOnly, FieldsJoined, FieldsLack, FieldsOnly}
 use Rattle.output.specs.Lines.{lines, fields, spaced, onto_first, before}
 use Rattle.scenario.proofs.Pieces.{lines_first, fields_first}
@@ -51,7 +51,7 @@ fields_lack (b ∷ bs) = go (eqb b 32) refl (fields_lack bs)
     go true e ih = (tt, ih)
     go false e ih = onto_lacks 32 b (fields bs) (eqb-false b 32 e) ih
 
-one_line : (l rest : List ℕ) → All (λ b. b ≢ 10) l → lines (l ++ (10 ∷ rest)) ≡ l ∷ lines rest
+one_line : (l rest : List ℕ) → AllByRecursion (λ b. b ≢ 10) l → lines (l ++ (10 ∷ rest)) ≡ l ∷ lines rest
 one_line [] rest h = refl
 one_line (b ∷ l) rest h = rw (ne_eqb b 10 h.0, one_line l rest h.1)
 
@@ -67,11 +67,11 @@ fields_joined (b ∷ bs) = go (eqb b 32) refl (before 32 bs) _ (fields_first bs)
     go true e f fs is ih = rw is (ap (λ xs. 32 ∷ xs) (sym (ap spaced is) ∙ ih) ∙ ap (λ k. k ∷ bs) (sym (eqb-true b 32 e)))
     go false e f fs is ih = rw is (spaced_onto b f fs ∙ ap (λ xs. b ∷ xs) (sym (ap spaced is) ∙ ih))
 
-one_field : (f rest : List ℕ) → All (λ b. b ≢ 32) f → fields (f ++ (32 ∷ rest)) ≡ f ∷ fields rest
+one_field : (f rest : List ℕ) → AllByRecursion (λ b. b ≢ 32) f → fields (f ++ (32 ∷ rest)) ≡ f ∷ fields rest
 one_field [] rest h = refl
 one_field (b ∷ f) rest h = rw (ne_eqb b 32 h.0, one_field f rest h.1)
 
-last_field : (f : List ℕ) → All (λ b. b ≢ 32) f → fields f ≡ f ∷ []
+last_field : (f : List ℕ) → AllByRecursion (λ b. b ≢ 32) f → fields f ≡ f ∷ []
 last_field [] h = refl
 last_field (b ∷ f) h = rw (ne_eqb b 32 h.0, last_field f h.1)
 

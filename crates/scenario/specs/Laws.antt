@@ -1,12 +1,12 @@
 -- Laws of lines, fields and numbers.
 use Rattle.std.specs.Prelude.{◌≡◌, ℕ, ◌^◌, ◌<◌, Bool, true, false, cond, ◌≢◌, List, [], ◌∷◌, ◌++◌, length, Some, decimal, ◌==◌}
-use Rattle.std.specs.List.{AllByRecursion as All}
+use Rattle.std.specs.List.{AllByRecursion}
 use Rattle.output.specs.Lines.{lines, fields, spaced}
 use Rattle.scenario.specs.Numbers.{value}
 
 -- no piece holds the byte
 abbrev pub Without : ℕ → List (List ℕ) → Type 0
-Without stop ps = All (All (λ b. b ≢ stop)) ps
+Without stop ps = AllByRecursion (AllByRecursion (λ b. b ≢ stop)) ps
 
 -- lines, each with byte 10 behind it
 abbrev pub ended : List (List ℕ) → List ℕ
