@@ -1,2 +1,2 @@
 pub mod Any
-pub mod AnyRuleRuleLemmas
+pub mod Laws

@@ -10,7 +10,7 @@ ghost use Rattle.budget.specs.Slots.{ticks_in};
 ghost use Rattle.any_rule.specs.Any.{meaning_of_base, policy_of_base, meaning_of_any, policy_of_any, budget_of_any};
 ghost use Rattle.budget.specs.OfRules.{meaning_of_shared, meaning_of_fixed};
 ghost use Rattle.any_rule.specs.declared.AnyRule.TheVariants.{OfShared, OfFixed, SharedUnder, FixedUnder};
-ghost use Rattle.any_rule.specs.AnyRuleRuleLemmas.{shared_law, fixed_law, below};
+ghost use Rattle.any_rule.specs.Laws.{shared_law, fixed_law, below};
 ghost use Rattle.std.proofs.Common.{rules};
 
 use budget::ceiling::Ceiling;

@@ -1,3 +1,4 @@
+-- A yes of a chosen rule fits its total.
 use Rattle.std.specs.Prelude.{◌≡◌, ℕ, ◌≤◌, Bool, true, false, ◌&&◌, refl}
 use Rattle.std.proofs.Common.{arith}
 use Rattle.budget.specs.declared.fixed.Fixed.{Fixed}
