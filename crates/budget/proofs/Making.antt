@@ -1,13 +1,13 @@
 -- What the tests of a list of budgets or ceilings show.
-use Rattle.std.proofs.Common.{◌≡◌, ℕ, zero, suc, ◌+◌, ◌<◌, ◌≤◌, Bool, true, false, cond, leb, List, [], ◌∷◌, length, Some, None, Option, sym, refl, ap, ◌∙◌, arith}
+use Rattle.std.proofs.Common.{◌≡◌, ℕ, zero, suc, ◌<◌, ◌≤◌, false, leb, List, [], ◌∷◌, length, Some, None, Option, sym, refl, ap, ◌∙◌, arith}
 use native.Mathlib.Decide.{dec_le}
 use Rattle.std.proofs.lemmas.Bool.{leb-true, le-leb, lt-leb}
 use Rattle.tasks.specs.declared.units.Ticks.{Ticks}
 use Rattle.tasks.specs.declared.units.Shares.{Shares}
-use Rattle.table.specs.Firsts.{or_else, first_of, unless}
+use Rattle.table.specs.Firsts.{or_else, first_of}
 use Rattle.table.specs.Verdict.{Draft}
 use Rattle.table.proofs.Accepted.{unless_none, none_unless}
-use Rattle.table.proofs.Firsts.{none_first, none_second, none_both, first_below_at, first_of_append}
+use Rattle.table.proofs.Firsts.{none_first, none_second, first_below_at, first_of_append}
 use Rattle.budget.specs.declared.refusal.FixedRefusal.{FixedRefusal}
 use Rattle.budget.specs.declared.refusal.FixedRefusal.TheVariants.{LowTask, TooLarge, OverTotal}
 use Rattle.budget.specs.Making.{mapped, at_slot, budgets_fault, low_budget, too_large, over_total_fault, fixed_fault}

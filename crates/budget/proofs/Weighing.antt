@@ -1,5 +1,5 @@
 -- Laws of a table's weights.
-use Rattle.std.proofs.Common.{◌≡◌, ℕ, suc, ◌-◌, ◌<◌, ◌≤◌, Bool, true, false, cond, ◌&&◌, leb, sym, refl, ap, ◌∙◌, div-le_self, arith}
+use Rattle.std.proofs.Common.{◌≡◌, ℕ, suc, ◌-◌, ◌≤◌, Bool, true, false, cond, leb, div-le_self, arith}
 use Rattle.std.proofs.lemmas.Bool.{lt-leb, and_right, cond-false}
 use Rattle.tasks.specs.declared.task.Criticality.{Criticality}
 use Rattle.tasks.specs.declared.task.Criticality.TheVariants.{High, Low}

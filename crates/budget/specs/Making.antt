@@ -1,5 +1,5 @@
 -- Which lists are fixed budgets of a table, and which are ceilings: the tests in their order, and the first refusal.
-use Rattle.std.specs.Prelude.{ℕ, ◌+◌, Bool, true, false, cond, List, [], ◌∷◌, length, Some, None, Option, ◌==◌, nat_le, slice_index_or}
+use Rattle.std.specs.Prelude.{ℕ, ◌+◌, Bool, true, List, [], ◌∷◌, length, Some, None, Option, ◌==◌, nat_le, slice_index_or}
 use Rattle.tasks.specs.declared.units.Ticks.{Ticks}
 use Rattle.tasks.specs.declared.task.Criticality.{Criticality}
 use Rattle.tasks.specs.declared.task.Criticality.TheVariants.{High, Low}

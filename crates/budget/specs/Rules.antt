@@ -1,5 +1,5 @@
 -- What each rule says: may a job of task i that has run so far have one more tick?
-use Rattle.std.specs.Prelude.{ℕ, suc, ◌-◌, ◌*◌, ◌/◌, min, Bool, true, false, cond, ◌&&◌, ◌==◌, nat_le, nat_lt}
+use Rattle.std.specs.Prelude.{ℕ, suc, ◌-◌, ◌*◌, ◌/◌, Bool, false, cond, ◌&&◌, ◌==◌, nat_le, nat_lt}
 use Rattle.table.specs.Sums.{sum}
 use Rattle.budget.specs.Meaning.{Meaning, load, raised}
 

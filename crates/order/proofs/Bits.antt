@@ -1,5 +1,5 @@
 -- Laws of `bit`.
-use Rattle.std.proofs.Common.{◌≡◌, ℕ, zero, suc, ◌+◌, ◌-◌, ◌*◌, ◌/◌, ◌%◌, ◌^◌, ◌<◌, ◌≤◌, Bool, true, false, cond, not, ◌&&◌, ◌||◌, eqb, ◌≢◌, ◌⊎◌, sym, refl, ap, ◌∙◌, subst, ap₂, inl, inr, ⊎_elim, mod-lt, pow-suc, div-one, add-one, one-add, arith}
+use Rattle.std.proofs.Common.{◌≡◌, ℕ, zero, suc, ◌+◌, ◌-◌, ◌/◌, ◌%◌, ◌^◌, ◌<◌, ◌≤◌, Bool, true, false, cond, not, ◌&&◌, ◌||◌, eqb, ◌≢◌, sym, refl, ap, ◌∙◌, mod-lt, pow-suc, div-one, one-add, arith}
 use native.Mathlib.Nat.{div-eq_of_lt, zero-div}
 use native.Mathlib.Decide.{dec_le, ℕ_discrete}
 use lib.Bits.{bit_and, bit_or, and_shr, and_mod, or_shr, or_mod}

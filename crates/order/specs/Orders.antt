@@ -1,5 +1,5 @@
 -- Tie orders by what they mean: which of two candidates goes ahead.
-use Rattle.std.specs.Prelude.{◌≡◌, ℕ, ◌<◌, Bool, true, false, not, ◌≢◌}
+use Rattle.std.specs.Prelude.{◌≡◌, ℕ, ◌<◌, Bool, true, not, ◌≢◌}
 use Rattle.tasks.specs.declared.task.Level.{Level}
 use Rattle.table.specs.Tasks.{ticks}
 use Rattle.order.specs.declared.candidate.Candidate.{Candidate}

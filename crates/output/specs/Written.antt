@@ -1,5 +1,5 @@
 -- Bytes written over a part of a buffer.
-use Rattle.std.specs.Prelude.{ℕ, ◌+◌, Bool, true, false, cond, List, [], ◌∷◌, ◌++◌, length, take, drop, Some, None, Option, nat_le}
+use Rattle.std.specs.Prelude.{ℕ, ◌+◌, Bool, cond, List, ◌++◌, length, take, drop, Some, None, Option, nat_le}
 
 -- w stands at place `at`, and all else is as it was
 abbrev pub over : ℕ → List ℕ → List ℕ → List ℕ

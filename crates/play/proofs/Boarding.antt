@@ -1,5 +1,5 @@
 -- What a board has still to print, before and after it reads a line.
-use Rattle.std.proofs.Common.{◌≡◌, ℕ, zero, suc, ◌+◌, ◌-◌, ◌<◌, Bool, true, false, cond, List, [], ◌∷◌, ◌++◌, length, drop, Some, None, Ok, Err, Option, Result, sym, refl, ap, ◌∙◌, arith}
+use Rattle.std.proofs.Common.{◌≡◌, ℕ, zero, suc, ◌-◌, ◌<◌, Bool, true, false, List, [], ◌∷◌, ◌++◌, length, drop, Some, None, Ok, Err, Option, Result, sym, ap, ◌∙◌, arith}
 use Rattle.runs.specs.declared.answer.Answer.{Answer}
 use Rattle.output.specs.declared.fault.Fault.{Fault}
 use Rattle.output.specs.declared.output.OutputLine.{OutputLine}
@@ -11,13 +11,13 @@ use Rattle.output.specs.Lines.{lines}
 use Rattle.scenario.specs.Reading.{next, moved}
 use Rattle.scenario.proofs.Whole.{fewer}
 use Rattle.transcript.specs.Shows.{answer_lines, listed}
-use Rattle.transcript.specs.Stages.{Stage, left_lines, left_stage}
+use Rattle.transcript.specs.Stages.{Stage}
 use Rattle.transcript.specs.Steps.{Step, step}
-use Rattle.transcript.specs.Transcripts.{transcript_from, carried_out, fault_lines}
+use Rattle.transcript.specs.Transcripts.{transcript_from, carried_out}
 use Rattle.play.specs.Boards.{upcoming}
 use Rattle.play.specs.Courses.{Goes_on, Halts}
 use Rattle.play.proofs.Reading.{by_next, from_next}
-use Rattle.play.proofs.Ticked.{lines_none, upcoming_none, upcoming_halts, upcoming_goes}
+use Rattle.play.proofs.Ticked.{upcoming_none, upcoming_halts, upcoming_goes}
 
 -- a tick of those that are left
 

@@ -1,5 +1,5 @@
 -- One task more of an outline.
-use Rattle.std.proofs.Common.{◌≡◌, ℕ, ◌+◌, ◌<◌, true, cond, ltb, List, [], ◌∷◌, ◌++◌, length, take, set, sym, ap, ◌∙◌, arith, length-take-le, lt-ltb}
+use Rattle.std.proofs.Common.{◌≡◌, ℕ, ◌+◌, ◌<◌, cond, List, [], ◌∷◌, ◌++◌, length, take, set, sym, ap, ◌∙◌, arith, length-take-le, lt-ltb}
 use Rattle.std.proofs.lemmas.List.{take_more_set}
 use Rattle.tasks.specs.declared.task.Task.{Task}
 use Rattle.transcript.specs.Steps.{with_task}

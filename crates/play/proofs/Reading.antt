@@ -1,5 +1,5 @@
 -- One line more of a text: its transcript by what the reader says.
-use Rattle.std.proofs.Common.{◌≡◌, ℕ, ◌+◌, ◌<◌, ◌≤◌, Bool, true, false, cond, leb, List, [], ◌∷◌, length, drop, Some, None, Ok, Err, Option, Result, sym, refl, ap, ◌∙◌, arith}
+use Rattle.std.proofs.Common.{◌≡◌, ℕ, ◌+◌, ◌<◌, Bool, true, false, cond, leb, List, [], ◌∷◌, length, drop, Some, None, Ok, Err, Option, Result, sym, refl, ap, ◌∙◌, arith}
 use mathlib.Core.Path.{fun_ext}
 use native.Mathlib.Decide.{dec_le}
 use Rattle.std.proofs.lemmas.List.{drop_all}
@@ -12,7 +12,7 @@ use Rattle.output.specs.Faults.{fault_at}
 use Rattle.scenario.specs.Items.{Item, read}
 use Rattle.scenario.specs.Kinds.{next_phase, may_end}
 use Rattle.output.specs.Lines.{lines, before}
-use Rattle.scenario.specs.Reading.{next, next_of, at_end, on_line, moved}
+use Rattle.scenario.specs.Reading.{next, next_of, on_line, moved}
 use Rattle.scenario.proofs.Reading.{lines_at}
 use Rattle.transcript.specs.Stages.{Stage}
 use Rattle.transcript.specs.Steps.{step}

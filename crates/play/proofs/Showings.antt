@@ -9,7 +9,7 @@ use Rattle.runs.specs.declared.call.Mark.{Mark}
 use Rattle.runs.specs.declared.refusal.TickRefusal.{TickRefusal}
 use Rattle.runs.specs.Choices.{Turn}
 use Rattle.runs.specs.Programs.{asked_meaning, rested_meaning, meaning_by, meaning_after}
-use Rattle.runs.specs.States.{State, Judged, OfTable, new_state}
+use Rattle.runs.specs.States.{State, Judged, OfTable}
 use Rattle.runs.specs.Ticking.{Asked, LetRest, Consulted, RuleAfter, rule_after_by, tick_fault, asked, outcome}
 use Rattle.any_rule.specs.declared.AnyRule.{AnyRule}
 use Rattle.any_rule.specs.declared.AnyRule.TheVariants.{OfShared, OfFixed, SharedUnder, FixedUnder}

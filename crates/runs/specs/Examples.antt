@@ -1,5 +1,5 @@
 -- The theorems speak of something: runs in which each bound is met, by computation on the definitions.
-use Rattle.std.specs.Prelude.{◌≡◌, ℕ, ◌-◌, Bool, true, false, cond, List, [], ◌∷◌, map, Some, Ok, slice_index}
+use Rattle.std.specs.Prelude.{◌≡◌, ℕ, ◌-◌, false, cond, List, [], ◌∷◌, map, Some, Ok, slice_index}
 use Rattle.tasks.specs.declared.task.Task.{Task}
 use Rattle.tasks.specs.declared.task.Criticality.TheVariants.{High, Low}
 use Rattle.table.specs.Tasks.{ticks, shares}

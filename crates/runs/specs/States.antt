@@ -5,7 +5,7 @@ use Rattle.tasks.specs.declared.task.Task.{Task}
 use Rattle.tasks.specs.declared.task.Criticality.{Criticality}
 use Rattle.tasks.specs.declared.task.Criticality.TheVariants.{High, Low}
 use Rattle.table.specs.Firsts.{first_below, unless}
-use Rattle.table.specs.Tasks.{ticks, weight}
+use Rattle.table.specs.Tasks.{ticks}
 use Rattle.table.specs.Verdict.{Draft, in_range}
 use Rattle.budget.specs.Meaning.{Meaning}
 pub use Rattle.budget.specs.Weights.{weight_by, rule_weight}

@@ -1,8 +1,8 @@
 -- Laws of all_digits and reading over what is left of a field.
-use Rattle.std.proofs.Common.{◌≡◌, ℕ, suc, ◌+◌, ◌-◌, ◌*◌, ◌<◌, ◌≤◌, Bool, true, false, cond, not, ◌&&◌, ◌||◌, eqb, leb, ◌⊎◌, List, [], ◌∷◌, length, get_or, drop, Some, None, Option, sym, refl, ap, ◌∙◌, inl, inr, arith}
-use Rattle.std.proofs.lemmas.List.{drop_more, drop_all}
+use Rattle.std.proofs.Common.{◌≡◌, ℕ, ◌+◌, ◌-◌, ◌*◌, ◌<◌, ◌≤◌, Bool, true, false, cond, not, ◌&&◌, ◌||◌, eqb, leb, ◌⊎◌, List, length, get_or, drop, Some, None, refl, inl, inr}
+use Rattle.std.proofs.lemmas.List.{drop_more}
 use Rattle.std.proofs.lemmas.Bool.{le-leb, lt-leb, eq-eqb, ne_eqb}
-use Rattle.scenario.specs.Numbers.{in_range, all_digits, numeral, reading, value}
+use Rattle.scenario.specs.Numbers.{in_range, all_digits, reading, value}
 
 pub inside : (low high n : ℕ) → low ≤ n → n ≤ high → in_range low high n ≡ true
 inside low high n h k = rw (le-leb low n h, le-leb n high k)

@@ -1,5 +1,5 @@
 -- A line that is read is a good one.
-use Rattle.std.proofs.Common.{◌≡◌, ℕ, Bool, true, false, List, [], ◌∷◌, length, Some, None, Ok, Err, Option, sym, refl, ap, ◌∙◌, arith}
+use Rattle.std.proofs.Common.{◌≡◌, ℕ, Bool, true, false, List, [], ◌∷◌, length, Some, None, Ok, Option, refl, arith}
 use Rattle.table.specs.Firsts.{first_of, unless}
 use Rattle.output.specs.declared.fault.ReaderRefusal.TheVariants.{Order, Count, Number}
 use Rattle.scenario.specs.declared.kind.Kind.{Kind}

@@ -1,10 +1,10 @@
 -- A written number reads back to itself.
-use Rattle.std.proofs.Common.{◌≡◌, ℕ, suc, ◌+◌, ◌^◌, ◌<◌, ◌≤◌, Bool, true, false, cond, not, ◌&&◌, ◌||◌, eqb, leb, ◌⊎◌, List, [], ◌∷◌, length, get_or, Some, None, decimal, sym, refl, ap, ◌∙◌, inl, inr, arith, rules}
+use Rattle.std.proofs.Common.{◌≡◌, ℕ, ◌^◌, ◌<◌, ◌≤◌, Bool, true, false, cond, not, ◌&&◌, ◌||◌, eqb, leb, ◌⊎◌, length, get_or, Some, None, decimal, sym, refl, ap, ◌∙◌, inl, inr, arith, rules}
 use Rattle.std.proofs.lemmas.Fmt.{digits_decimal, digits_value-decimal, length-decimal-le, decimal_nonempty, first_decimal, decimal_digit, decimal-digits_value}
-use Rattle.std.proofs.lemmas.Str.Parse.{IsNumeralModel, IsDigitsTest, FoldsDigits, numerals_by_fold, digits_value_short}
+use Rattle.std.proofs.lemmas.Str.Parse.{IsNumeralModel, numerals_by_fold, digits_value_short}
 use Rattle.std.proofs.lemmas.Bool.{cases_eq, and_parts, leb-true, eq-eqb}
 use Rattle.scenario.specs.Laws.{WrittenReads, ReadsWritten}
-use Rattle.scenario.specs.Numbers.{in_range, all_digits, numeral, reading, value}
+use Rattle.scenario.specs.Numbers.{in_range, all_digits, reading}
 use Rattle.scenario.proofs.Digits.{value_some}
 
 own : IsNumeralModel (λ ds. all_digits ds ≡ true) (reading 0)

@@ -1,5 +1,5 @@
 -- The fields that are left, by the first of them.
-use Rattle.std.proofs.Common.{◌≡◌, ℕ, suc, true, false, eqb, List, [], ◌∷◌, length, Some, None, Option, sym, refl, ap, ◌∙◌, arith}
+use Rattle.std.proofs.Common.{◌≡◌, ℕ, true, false, eqb, List, [], ◌∷◌, length, Some, None, sym, refl, arith}
 use lib.Dec.{eqb-suc-zero}
 use Rattle.scenario.specs.Left.{first, others}
 use Rattle.scenario.specs.Shown.{all_if}

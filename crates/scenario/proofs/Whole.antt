@@ -1,5 +1,5 @@
 -- One line more of a text: the fault of what is left stays, and fewer lines are left.
-use Rattle.std.proofs.Common.{◌≡◌, ℕ, ◌+◌, ◌<◌, ◌≤◌, Bool, true, false, cond, leb, List, [], ◌∷◌, length, drop, Some, None, Ok, Err, Option, Result, sym, refl, ap, ◌∙◌, inl, inr, arith}
+use Rattle.std.proofs.Common.{◌≡◌, ℕ, ◌<◌, ◌≤◌, Bool, true, false, cond, leb, List, length, drop, Some, None, Ok, Err, Option, Result, sym, refl, ap, ◌∙◌, arith}
 use native.Mathlib.Decide.{dec_le}
 use Rattle.std.proofs.lemmas.Bool.{leb-true, le-leb}
 use Rattle.output.specs.declared.fault.Fault.{Fault}
@@ -11,7 +11,7 @@ use Rattle.output.specs.Faults.{fault_at}
 use Rattle.scenario.specs.Items.{Item, read}
 use Rattle.scenario.specs.Kinds.{may_end}
 use Rattle.output.specs.Lines.{lines, before}
-use Rattle.scenario.specs.Reading.{next, next_of, at_end, on_line, moved, lines_after, shown_next}
+use Rattle.scenario.specs.Reading.{next, next_of, on_line, moved, lines_after, shown_next}
 use Rattle.scenario.specs.Shown.{shown}
 use Rattle.scenario.specs.Whole.{fault_from}
 use Rattle.scenario.proofs.Reading.{lines_at, next_end, next_line}

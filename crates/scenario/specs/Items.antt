@@ -5,7 +5,7 @@ use Rattle.scenario.specs.declared.kind.Kind.{Kind}
 use Rattle.scenario.specs.declared.kind.Kind.TheVariants.{Scale, High, Low, Shared, Fixed, Ceiling, Arrival, Run}
 use Rattle.scenario.specs.declared.kind.Phase.{Phase}
 use Rattle.output.specs.declared.fault.ReaderRefusal.{ReaderRefusal}
-use Rattle.output.specs.declared.fault.ReaderRefusal.TheVariants.{Letter, Count, Number, Order, Length}
+use Rattle.output.specs.declared.fault.ReaderRefusal.TheVariants.{Letter, Count, Number, Order}
 use Rattle.scenario.specs.Kinds.{kind_of, allowed}
 use Rattle.output.specs.Lines.{fields}
 use Rattle.scenario.specs.Numbers.{in_range, value}

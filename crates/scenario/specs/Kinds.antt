@@ -1,5 +1,5 @@
 -- The kinds of lines, their letters and their order.
-use Rattle.std.specs.Prelude.{ℕ, Bool, true, false, cond, List, [], ◌∷◌, length, Some, None, Option, ◌==◌, slice_index}
+use Rattle.std.specs.Prelude.{ℕ, Bool, true, false, cond, List, length, Some, None, Option, ◌==◌, slice_index}
 use Rattle.scenario.specs.declared.kind.Kind.{Kind}
 use Rattle.scenario.specs.declared.kind.Kind.TheVariants.{Scale, High, Low, Shared, Fixed, Ceiling, Arrival, Run}
 use Rattle.scenario.specs.declared.kind.Phase.{Phase}

@@ -1,5 +1,5 @@
 -- Laws of lines, fields and numbers.
-use Rattle.std.specs.Prelude.{◌≡◌, ℕ, ◌^◌, ◌<◌, Bool, true, false, cond, ◌≢◌, List, [], ◌∷◌, ◌++◌, length, Some, decimal, ◌==◌}
+use Rattle.std.specs.Prelude.{◌≡◌, ℕ, ◌^◌, ◌<◌, Bool, true, cond, ◌≢◌, List, [], ◌∷◌, ◌++◌, Some, decimal, ◌==◌}
 use Rattle.std.specs.List.{AllByRecursion}
 use Rattle.output.specs.Lines.{lines, fields, spaced}
 use Rattle.scenario.specs.Numbers.{value}

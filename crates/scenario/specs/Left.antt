@@ -1,5 +1,5 @@
 -- The fields of a line that are still to come.
-use Rattle.std.specs.Prelude.{ℕ, ◌+◌, Bool, true, false, cond, ◌&&◌, List, [], ◌∷◌, length, drop, Some, None, Option, nat_lt}
+use Rattle.std.specs.Prelude.{ℕ, ◌+◌, Bool, cond, ◌&&◌, List, [], ◌∷◌, length, drop, Some, None, Option, nat_lt}
 use Rattle.std.specs.Borrow.{Bor}
 use Rattle.scenario.specs.declared.fields.Fields.{Fields}
 use Rattle.output.specs.Lines.{fields, before}

@@ -1,5 +1,5 @@
 -- What a text gives at a place: the next line, the end, or a fault.
-use Rattle.std.specs.Prelude.{◌≡◌, ℕ, ◌+◌, Bool, true, false, cond, List, [], ◌∷◌, length, drop, Some, None, Ok, Err, Option, Result, nat_le}
+use Rattle.std.specs.Prelude.{◌≡◌, ℕ, ◌+◌, true, cond, List, [], ◌∷◌, length, drop, Some, None, Ok, Err, Option, Result, nat_le}
 use Rattle.output.specs.declared.fault.Fault.{Fault}
 use Rattle.output.specs.declared.fault.ReaderRefusal.{ReaderRefusal}
 use Rattle.output.specs.declared.fault.ReaderRefusal.TheVariants.{Order, Length}

@@ -1,11 +1,10 @@
 -- A line as the reader hands it out, as what it says.
-use Rattle.std.specs.Prelude.{ℕ, Bool, true, false, cond, eqb, List, [], ◌∷◌, length, Some, None, Ok, Err, Option, Result}
+use Rattle.std.specs.Prelude.{ℕ, Bool, true, false, List, [], ◌∷◌, Some, None, Ok, Err, Option, Result}
 use Rattle.std.specs.Borrow.{Bor}
-use Rattle.scenario.specs.declared.kind.Kind.{Kind}
 use Rattle.scenario.specs.declared.kind.Kind.TheVariants.{Scale as S, High as H, Low as L, Shared as M, Fixed as F, Ceiling as C, Arrival as A, Run as R}
 use Rattle.scenario.specs.declared.lines.Line.{Line}
 use Rattle.scenario.specs.declared.lines.Line.TheVariants.{Scale, High, Low, Shared, Fixed, Ceiling, Arrival, Run}
-use Rattle.scenario.specs.Items.{Item, item, right_count}
+use Rattle.scenario.specs.Items.{Item, item}
 use Rattle.scenario.specs.Left.{to_come}
 
 abbrev pub shown : Line → Item

@@ -1,5 +1,5 @@
 -- The first fault of a whole text.
-use Rattle.std.specs.Prelude.{ℕ, ◌+◌, Bool, true, false, cond, List, [], ◌∷◌, length, drop, Some, None, Ok, Err, Option, Result, nat_le}
+use Rattle.std.specs.Prelude.{ℕ, ◌+◌, cond, List, [], ◌∷◌, length, drop, Some, None, Ok, Err, Option, Result, nat_le}
 use Rattle.output.specs.declared.fault.Fault.{Fault}
 use Rattle.output.specs.declared.fault.ReaderRefusal.{ReaderRefusal}
 use Rattle.output.specs.declared.fault.ReaderRefusal.TheVariants.{Order, Length}

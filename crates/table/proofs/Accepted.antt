@@ -1,5 +1,5 @@
 -- A draft is accepted exactly when the plain inequalities hold.
-use Rattle.std.proofs.Common.{◌≡◌, ℕ, zero, suc, ◌+◌, ◌*◌, ◌/◌, ◌%◌, ◌<◌, ◌≤◌, Bool, true, false, ◌&&◌, eqb, leb, List, [], ◌∷◌, is_some, Some, None, Option, sym, refl, ap, ◌∙◌, mul_comm, arith}
+use Rattle.std.proofs.Common.{◌≡◌, ℕ, ◌+◌, ◌*◌, ◌/◌, ◌%◌, ◌≤◌, Bool, true, false, eqb, leb, List, [], ◌∷◌, is_some, Some, None, Option, sym, refl, ap, ◌∙◌, mul_comm, arith}
 use mathlib.Core.Path.{fun_ext}
 use native.Mathlib.Nat.{div-add-mod}
 use Rattle.std.proofs.lemmas.Bool.{leb-true, le-leb, eqb-true, eq-eqb, and_parts, and_from}
@@ -8,8 +8,8 @@ use Rattle.tasks.specs.declared.task.Task.{Task}
 use Rattle.tasks.specs.declared.task.Factor.{Factor}
 use Rattle.tasks.specs.declared.task.Tests.{Tests}
 use Rattle.tasks.specs.declared.refusal.TableRefusal.{TableRefusal}
-use Rattle.table.specs.Firsts.{or_else, first_of, first_below, unless}
-use Rattle.table.specs.Tasks.{slot, weight, virtual_deadline, low_assured}
+use Rattle.table.specs.Firsts.{or_else, first_of, unless}
+use Rattle.table.specs.Tasks.{slot, weight, low_assured}
 use Rattle.table.specs.Verdict.{Draft, drafted, in_range, count_fault, scale_fault, factor_fault, total_fault, period_fault, deadline_fault, service_fault, task_fault, tasks_fault, low_fault, high_fault, tests_of, shape_faults, shape_fault, verdict}
 use Rattle.table.specs.Accepted.{Sound, Accepted}
 use Rattle.table.proofs.Firsts.{none_first, none_second, none_both, first_below_at, first_below_all, first_of_append}

@@ -1,5 +1,5 @@
 -- Each part of a task that was tested is at most its period.
-use Rattle.std.proofs.Common.{ℕ, ◌-◌, ◌≤◌, arith}
+use Rattle.std.proofs.Common.{ℕ, ◌≤◌, arith}
 use Rattle.tasks.specs.declared.task.Task.{Task}
 use Rattle.tasks.specs.declared.task.Criticality.{Criticality}
 use Rattle.tasks.specs.declared.task.Criticality.TheVariants.{High, Low}

@@ -1,6 +1,6 @@
 -- Laws of `sum`.
-use Rattle.std.proofs.Common.{◌≡◌, ℕ, zero, suc, ◌+◌, ◌*◌, ◌<◌, ◌≤◌, sym, refl, ap, ◌∙◌, add-one, arith}
-use native.Mathlib.Decide.{ℕ_discrete, dec_le}
+use Rattle.std.proofs.Common.{◌≡◌, ℕ, zero, suc, ◌+◌, ◌*◌, ◌<◌, ◌≤◌, refl, ap, add-one, arith}
+use native.Mathlib.Decide.{ℕ_discrete}
 use Rattle.table.specs.Sums.{sum}
 
 pub sum_none : (f : ℕ → ℕ) → sum 0 f ≡ 0

@@ -1,5 +1,5 @@
 -- A task's numbers, and the weighted sums over the tasks of a table. Task number k + 1 stands at slot k.
-use Rattle.std.specs.Prelude.{ℕ, ◌+◌, ◌-◌, ◌*◌, ◌/◌, List, slice_index_or}
+use Rattle.std.specs.Prelude.{ℕ, ◌-◌, ◌*◌, ◌/◌, List, slice_index_or}
 use Rattle.tasks.specs.declared.units.Ticks.{Ticks}
 use Rattle.tasks.specs.declared.units.Shares.{Shares}
 use Rattle.tasks.specs.declared.task.Task.{Task}

@@ -1,5 +1,5 @@
 -- Which tables are accepted: the tests in their order, and the first refusal.
-use Rattle.std.specs.Prelude.{◌≡◌, ℕ, ◌+◌, ◌*◌, ◌%◌, Bool, true, false, ◌&&◌, List, [], ◌∷◌, ◌++◌, Some, None, Option, ◌==◌, nat_le}
+use Rattle.std.specs.Prelude.{ℕ, ◌+◌, ◌*◌, ◌%◌, Bool, ◌&&◌, List, [], ◌∷◌, ◌++◌, Some, None, Option, ◌==◌, nat_le}
 use Rattle.tasks.specs.declared.units.Shares.{Shares}
 use Rattle.tasks.specs.declared.task.Task.{Task}
 use Rattle.tasks.specs.declared.task.Factor.{Factor}
@@ -9,7 +9,7 @@ use Rattle.tasks.specs.declared.task.Tests.{Tests}
 use Rattle.tasks.specs.declared.refusal.TableRefusal.{TableRefusal}
 use Rattle.tasks.specs.declared.refusal.TableRefusal.TheVariants.{Count, Scale, Factor as FactorOut, Total, Period, VirtualDeadline, Service, LowTest, HighTest}
 use Rattle.table.specs.Firsts.{first_of, first_below, unless}
-use Rattle.table.specs.Tasks.{shares, slot, weight, low_assured, low_rest, high_worst, weighted}
+use Rattle.table.specs.Tasks.{shares, slot, low_assured, low_rest, high_worst, weighted}
 
 -- A table as a caller drafts it: nothing of it has been tested.
 pub record Draft : Type 0 where

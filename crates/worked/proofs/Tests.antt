@@ -1,5 +1,5 @@
 -- An example whose test passes says the truth; the checker computes the test of each.
-use Rattle.std.proofs.Common.{◌≡◌, ℕ, Bool, true, false, ◌&&◌, eqb, List, [], ◌∷◌, Some, None, Option, refl, ap, arith}
+use Rattle.std.proofs.Common.{◌≡◌, ℕ, true, false, ◌&&◌, eqb, List, [], ◌∷◌, Some, None, Option, refl, ap, arith}
 use Rattle.std.proofs.lemmas.Bool.{eqb-true, and_parts}
 use Rattle.tasks.specs.declared.task.Comparison.{Comparison}
 use Rattle.tasks.specs.declared.refusal.TableRefusal.{TableRefusal}

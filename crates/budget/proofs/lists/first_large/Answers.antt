@@ -1,4 +1,4 @@
-use Rattle.std.proofs.Common.{◌≡◌, ℕ, leb, length, Option, sym, ap}
+use Rattle.std.proofs.Common.{ℕ, leb, length, Option, sym, ap}
 use Rattle.std.proofs.lemmas.Bool.{lt-leb, le-leb}
 use Rattle.table.specs.Firsts.{unless}
 use Rattle.table.proofs.Firsts.{first_below_none, first_below_next, first_below_here}

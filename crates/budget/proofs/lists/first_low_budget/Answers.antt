@@ -1,4 +1,4 @@
-use Rattle.std.proofs.Common.{◌≡◌, ℕ, ◌<◌, length, Option, sym, ap, ◌∙◌, arith}
+use Rattle.std.proofs.Common.{ℕ, ◌<◌, length, Option, sym, ap, ◌∙◌, arith}
 use Rattle.table.specs.Firsts.{unless}
 use Rattle.table.specs.Tables.{draft_of}
 use Rattle.table.proofs.Firsts.{first_below_none, first_below_next, first_below_here}

@@ -1,4 +1,4 @@
-use Rattle.std.proofs.Common.{◌≡◌, sym, refl, ap, ⊎_elim, arith}
+use Rattle.std.proofs.Common.{sym, ap, ⊎_elim, arith}
 use Rattle.budget.specs.Slots.{ticks_in}
 use Rattle.budget.proofs.Slots.{ticks_past}
 use Rattle.budget.proofs.lists.ticks_of.Goals as goal

@@ -3,7 +3,7 @@ use Rattle.tasks.specs.declared.units.Ticks.{Ticks}
 use Rattle.table.specs.Tables.{draft_of}
 use Rattle.table.proofs.Tables.{table_accepted}
 use Rattle.runs.specs.declared.answer.Job.{Job}
-use Rattle.runs.specs.States.{known, put, job_of}
+use Rattle.runs.specs.States.{put, job_of}
 use Rattle.runs.specs.Slots.{seat}
 use Rattle.runs.specs.Arrivals.{arrival_fault, arrival_result, arrival_state, arrived}
 use Rattle.dispatch.specs.declared.state.Core.{Core}

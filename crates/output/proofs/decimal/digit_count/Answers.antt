@@ -1,5 +1,5 @@
 use Rattle.std.proofs.Common.{arith}
-use Rattle.std.proofs.lemmas.Fmt.{decimal_nonempty, length-decimal-le}
+use Rattle.std.proofs.lemmas.Fmt.{length-decimal-le}
 use Rattle.output.proofs.Spelled.{decimal_shorter, decimal_one}
 use Rattle.output.proofs.decimal.digit_count.Goals as goal
 

@@ -1,5 +1,5 @@
 use Rattle.std.proofs.Common.{◌≡◌, ℕ, List, [], ◌∷◌, ◌++◌, length, decimal, ap, ◌∙◌, arith}
-use Rattle.output.specs.Output.{closed, page, fault_words, layer_letter}
+use Rattle.output.specs.Output.{closed, page, fault_words}
 use Rattle.output.proofs.Pages.{Stands, stands_first, stands_more, three_fields}
 use Rattle.output.proofs.output.put_fault.Goals as goal
 

@@ -1,4 +1,4 @@
-use Rattle.std.proofs.Common.{[], ◌∷◌, length, set, decimal, refl, ap, ◌∙◌, arith}
+use Rattle.std.proofs.Common.{decimal, arith}
 use Rattle.std.proofs.lemmas.List.{length_push}
 use Rattle.output.proofs.Pages.{set_behind}
 use Rattle.output.proofs.put.put_ended.Goals as goal

@@ -1,6 +1,6 @@
-use Rattle.std.proofs.Common.{◌≡◌, ◌+◌, length, Some, sym, ap, ◌∙◌, arith}
+use Rattle.std.proofs.Common.{◌≡◌, ◌+◌, length, Some, ◌∙◌, arith}
 use Rattle.std.proofs.lemmas.List.{length-set}
-use Rattle.scenario.specs.Left.{to_come, first, bytes}
+use Rattle.scenario.specs.Left.{to_come, first}
 use Rattle.play.proofs.Amounts.{amounts_more, others_fewer}
 use Rattle.play.proofs.fields.tick_list.Goals as goal
 

@@ -1,4 +1,4 @@
-use Rattle.std.proofs.Common.{◌≡◌, ◌^◌, ◌<◌, true, drop}
+use Rattle.std.proofs.Common.{◌≡◌, ◌^◌, ◌<◌, drop}
 use Rattle.scenario.specs.Numbers.{all_digits, reading}
 use Rattle.scenario.proofs.number.number.Given as goal
 

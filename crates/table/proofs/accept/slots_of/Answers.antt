@@ -1,6 +1,6 @@
-use Rattle.std.proofs.Common.{◌≡◌, ◌<◌, length, refl, ap, ◌∙◌, arith, length-set}
+use Rattle.std.proofs.Common.{◌≡◌, ◌<◌, length, refl, arith, length-set}
 use Rattle.table.specs.Tasks.{blank}
-use Rattle.table.proofs.Filled.{Filled, filled_none, filled_more, filled_all}
+use Rattle.table.proofs.Filled.{filled_none, filled_more, filled_all}
 use Rattle.table.proofs.accept.slots_of.Goals as goal
 
 pub loop-i-init : goal.loop-i-init

@@ -1,4 +1,4 @@
-use Rattle.std.proofs.Common.{◌≡◌, ℕ, ◌*◌, ◌/◌, ◌^◌, ◌≤◌, ap, mul-le-mul_left, div-mul-le_self, arith}
+use Rattle.std.proofs.Common.{ℕ, ◌*◌, ◌/◌, ◌≤◌, ap, mul-le-mul_left, div-mul-le_self, arith}
 use Rattle.table.proofs.figures.share_of.Goals as goal
 
 -- w * part ≤ w * T ≤ H

@@ -1,4 +1,4 @@
-use Rattle.std.proofs.Common.{◌≡◌, ℕ, ◌+◌, ◌*◌, ◌≤◌, None, sym, ap, ◌∙◌, arith}
+use Rattle.std.proofs.Common.{◌≡◌, ℕ, ◌+◌, ◌*◌, None, sym, ap, ◌∙◌, arith}
 use Rattle.table.specs.Parts.{part_of}
 use Rattle.table.specs.Sums.{sum}
 use Rattle.table.specs.Tasks.{slot, weight}

@@ -1,7 +1,6 @@
-use Rattle.std.proofs.Common.{◌≡◌, ℕ, ◌≤◌, false, cond, eqb, ltb, sym, refl, ap, ◌∙◌, arith}
+use Rattle.std.proofs.Common.{false, cond, eqb, ltb, sym, ap, ◌∙◌, arith}
 use Rattle.table.specs.Tables.{draft_of}
 use Rattle.table.proofs.Tables.{table_accepted}
-use Rattle.budget.specs.Meaning.{load}
 use Rattle.budget.specs.OfRules.{weights_of}
 use Rattle.budget.specs.Slots.{ticks_in}
 use Rattle.budget.specs.Weights.{rule_weight}

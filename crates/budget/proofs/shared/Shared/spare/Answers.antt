@@ -1,4 +1,4 @@
-use Rattle.std.proofs.Common.{◌≡◌, ℕ, ◌-◌, ◌/◌, false, cond, eqb, ltb, sym, ap, ◌∙◌, arith}
+use Rattle.std.proofs.Common.{◌≡◌, ℕ, ◌-◌, ◌/◌, false, eqb, ltb, sym, ap, ◌∙◌}
 use Rattle.std.proofs.lemmas.Bool.{ne_eqb, eq-eqb, cond-true, cond-false}
 use Rattle.budget.specs.declared.shared.Shared.{Shared}
 use Rattle.budget.specs.OfRules.{weights_of, longest_of, meaning_of_shared, budget_of_shared}

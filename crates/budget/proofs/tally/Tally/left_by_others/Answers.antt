@@ -1,4 +1,4 @@
-use Rattle.std.proofs.Common.{◌≡◌, ◌<◌, ◌≤◌, ap, arith}
+use Rattle.std.proofs.Common.{◌≡◌, ◌<◌, ap, arith}
 use Rattle.table.specs.Sums.{sum}
 use Rattle.table.proofs.Sums.{sum_none, sum_more, sum_part}
 use Rattle.budget.specs.OfRules.{weights_of, longest_of}

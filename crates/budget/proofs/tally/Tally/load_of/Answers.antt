@@ -1,4 +1,4 @@
-use Rattle.std.proofs.Common.{◌≡◌, ℕ, suc, ◌+◌, ◌*◌, ◌≤◌, sym, ap, ◌∙◌, mul-le-mul, arith}
+use Rattle.std.proofs.Common.{◌≡◌, ℕ, suc, ◌*◌, ◌≤◌, sym, ap, ◌∙◌, mul-le-mul, arith}
 use Rattle.table.specs.Sums.{sum}
 use Rattle.table.proofs.Sums.{sum_none, sum_more}
 use Rattle.budget.specs.OfRules.{weights_of}

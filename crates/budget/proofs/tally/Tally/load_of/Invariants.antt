@@ -1,4 +1,4 @@
-use Rattle.std.proofs.Common.{◌≡◌, ℕ, suc, ◌*◌, ◌≤◌}
+use Rattle.std.proofs.Common.{◌≡◌, suc, ◌*◌, ◌≤◌}
 use Rattle.table.specs.Sums.{sum}
 use Rattle.budget.specs.OfRules.{weights_of}
 use Rattle.budget.specs.Slots.{ticks_in}

@@ -1,4 +1,4 @@
-use Rattle.std.proofs.Common.{◌≡◌, suc, ◌≤◌, ◌∙◌, arith}
+use Rattle.std.proofs.Common.{suc, ◌∙◌, arith}
 use Rattle.table.specs.Tables.{draft_of}
 use Rattle.table.proofs.Tables.{table_accepted}
 use Rattle.budget.proofs.Weighing.{rule_weight_past}

@@ -1,4 +1,4 @@
-use Rattle.std.proofs.Common.{◌≡◌, Some, None, Option, sym, ap, ◌∙◌}
+use Rattle.std.proofs.Common.{ap, ◌∙◌}
 use Rattle.budget.specs.Slots.{ticks_in}
 use Rattle.runs.specs.declared.call.Mark.TheVariants.{NotDone}
 use Rattle.dispatch.specs.Cores.{state_of}

@@ -1,6 +1,5 @@
-use Rattle.std.proofs.Common.{◌≡◌, length, sym, ap, ◌∙◌, arith}
+use Rattle.std.proofs.Common.{length, arith}
 use Rattle.std.proofs.lemmas.Bool.{le-leb}
-use Rattle.output.specs.Output.{closed, fault_words}
 use Rattle.output.proofs.output.OutputLine.write.Goals as goal
 
 pub returns-in-Faulted : goal.returns-in-Faulted

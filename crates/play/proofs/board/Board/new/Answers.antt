@@ -1,6 +1,5 @@
-use Rattle.std.proofs.Common.{◌≡◌, ap, ◌∙◌}
-use Rattle.scenario.specs.Reading.{start}
-use Rattle.scenario.specs.Readers.{text_of, place_of}
+use Rattle.std.proofs.Common.{ap, ◌∙◌}
+use Rattle.scenario.specs.Readers.{place_of}
 use Rattle.transcript.specs.Stages.{opening}
 use Rattle.transcript.specs.Transcripts.{transcript_from}
 use Rattle.transcript.proofs.Young.{every_text_stays_young}

@@ -1,11 +1,9 @@
-use Rattle.std.proofs.Common.{◌≡◌, ℕ, ◌+◌, ◌<◌, cond, [], ◌∷◌, ◌++◌, length, Ok, sym, ap, ◌∙◌, arith}
+use Rattle.std.proofs.Common.{◌+◌, cond, [], ◌∷◌, ◌++◌, length, Ok, sym, ap, ◌∙◌, arith}
 use Rattle.output.specs.declared.output.OutputLine.TheVariants.{Faulted}
 use Rattle.scenario.specs.Readers.{text_of, place_of, lines_left}
 use Rattle.scenario.specs.Reading.{moved, lines_after, shown_next}
 use Rattle.scenario.specs.Shown.{shown}
 use Rattle.transcript.specs.Shows.{listed}
-use Rattle.transcript.specs.Transcripts.{transcript_from}
-use Rattle.play.specs.Boards.{to_come, turns}
 use Rattle.play.specs.Courses.{stage_of}
 use Rattle.play.proofs.Boarding.{rest_to_come, nothing_to_come, ends, faults, stops, leads_on, fewer_lines}
 use Rattle.play.proofs.board.Board.read_on.Goals as goal

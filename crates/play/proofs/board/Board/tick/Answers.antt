@@ -1,7 +1,7 @@
-use Rattle.std.proofs.Common.{◌≡◌, ◌-◌, ◌∷◌, ◌++◌, sym, refl, ap, ◌∙◌}
+use Rattle.std.proofs.Common.{◌-◌, ◌∷◌, ◌++◌, sym, refl, ap, ◌∙◌}
 use Rattle.scenario.specs.Readers.{text_of, place_of}
-use Rattle.transcript.specs.Shows.{listed, answer_lines}
-use Rattle.play.specs.Boards.{to_come, upcoming}
+use Rattle.transcript.specs.Shows.{listed}
+use Rattle.play.specs.Boards.{upcoming}
 use Rattle.play.specs.Courses.{stage_of}
 use Rattle.play.proofs.Boarding.{left_halts, left_goes}
 use Rattle.play.proofs.Ticked.{switch_first, tick_first}

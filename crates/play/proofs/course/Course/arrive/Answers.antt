@@ -1,4 +1,4 @@
-use Rattle.std.proofs.Common.{◌≡◌, Some, Ok, Result, ap, ◌∙◌}
+use Rattle.std.proofs.Common.{Some, Ok, Result, ap, ◌∙◌}
 use Rattle.output.specs.declared.fault.Fault.{Fault}
 use Rattle.output.specs.declared.output.OutputLine.{OutputLine}
 use Rattle.transcript.specs.Shows.{Show as Shown, arrival_line, arriving}

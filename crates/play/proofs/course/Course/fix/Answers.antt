@@ -1,4 +1,4 @@
-use Rattle.std.proofs.Common.{◌≡◌, Err, sym, ap, ◌∙◌, arith, length-take-le}
+use Rattle.std.proofs.Common.{Err, ap, ◌∙◌, arith, length-take-le}
 use Rattle.table.specs.Tables.{draft_of}
 use Rattle.any_rule.specs.Any.{policy_of_base}
 use Rattle.transcript.specs.Stages.{ruled}

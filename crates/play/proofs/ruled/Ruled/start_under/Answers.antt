@@ -1,4 +1,4 @@
-use Rattle.std.proofs.Common.{◌≡◌, ap, ◌∙◌}
+use Rattle.std.proofs.Common.{ap, ◌∙◌}
 use Rattle.table.specs.Tables.{draft_of}
 use Rattle.transcript.specs.Shows.{new_show}
 use Rattle.play.proofs.ruled.Ruled.start_under.Goals as goal

@@ -1,9 +1,8 @@
-use Rattle.std.proofs.Common.{◌≡◌, sym, refl, ap, ◌∙◌}
+use Rattle.std.proofs.Common.{ap, ◌∙◌}
 use mathlib.Core.Path.{fun_ext}
 use Rattle.table.specs.Tables.{draft_of}
 use Rattle.table.specs.Tasks.{ticks}
 use Rattle.budget.specs.Slots.{ticks_in}
-use Rattle.runs.specs.Numbers.{arrival_number}
 use Rattle.any_rule.specs.Any.{meaning_of_any, policy_of_any}
 use Rattle.output.specs.declared.output.OutputLine.TheVariants.{Arrived, Refused}
 use Rattle.transcript.specs.Shows.{arrival_line, need_after}

@@ -1,4 +1,4 @@
-use Rattle.std.proofs.Common.{◌≡◌, false, sym, ap, ◌∙◌}
+use Rattle.std.proofs.Common.{◌≡◌, ap, ◌∙◌}
 use mathlib.Core.Path.{fun_ext}
 use Rattle.table.specs.Tables.{draft_of}
 use Rattle.runs.specs.States.{OfTable, new_state}

@@ -1,4 +1,4 @@
-use Rattle.std.proofs.Common.{◌≡◌, sym, refl, ap, ◌∙◌}
+use Rattle.std.proofs.Common.{◌≡◌, refl, ap, ◌∙◌}
 use Rattle.table.specs.Tables.{draft_of}
 use Rattle.order.specs.Ties.{by_number}
 use Rattle.runs.specs.Programs.{meaning_after}

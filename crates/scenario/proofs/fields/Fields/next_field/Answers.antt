@@ -1,7 +1,7 @@
-use Rattle.std.proofs.Common.{◌≡◌, ℕ, ◌+◌, ◌-◌, ◌<◌, ◌≤◌, true, false, length, take, drop, sym, refl, ap, ◌∙◌, arith}
+use Rattle.std.proofs.Common.{◌≡◌, ℕ, ◌+◌, ◌-◌, ◌<◌, ◌≤◌, true, false, length, take, drop, ap, ◌∙◌, arith}
 use Rattle.std.proofs.lemmas.List.{take_rest}
 use Rattle.std.proofs.lemmas.Bool.{lt-ltb, le-ltb}
-use Rattle.output.specs.Lines.{before, fields}
+use Rattle.output.specs.Lines.{before}
 use Rattle.scenario.proofs.Pieces.{before_part, fields_more, fields_last}
 use Rattle.scenario.proofs.fields.Fields.next_field.Goals as goal
 use Rattle.scenario.proofs.fields.Fields.next_field.Goals.{then-end-rest, else-end-rest}

@@ -1,4 +1,4 @@
-use Rattle.std.proofs.Common.{◌≡◌, ◌<◌, ◌≤◌, length, drop, sym, refl, ap, ◌∙◌, arith}
+use Rattle.std.proofs.Common.{drop, sym, refl, ap, ◌∙◌, arith}
 use Rattle.scenario.specs.Items.{read}
 use Rattle.output.specs.Lines.{before}
 use Rattle.scenario.specs.Reading.{on_line}
