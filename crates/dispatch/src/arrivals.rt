@@ -1,7 +1,7 @@
 ghost use Rattle.std.specs.Prelude.{◌≡◌, ◌+◌, ◌^◌, ◌<◌, true, Some, None, Ok, Err, slice_index_or};
 ghost use Rattle.table.specs.Firsts.{refusal};
 ghost use Rattle.table.specs.Tables.{draft_of};
-ghost use Rattle.runs.specs.States.{known, within as is_Within};
+ghost use Rattle.runs.specs.States.{known, within as is_within};
 ghost use Rattle.runs.specs.Arrivals.{next_arrival, unassured_by, arrival_fault, arrival, after_arrival};
 ghost use Rattle.dispatch.specs.Cores.{Fine, state_of};
 
@@ -33,7 +33,7 @@ fn next_after(last: Option<Ticks>, period: Ticks) -> Ticks
 }
 
 fn check_assured(mode: Mode, number: u32, criticality: Criticality) -> Result<(), ArrivalRefusal>
-    ensures { refusal result ≡ unassured_by mode number (is_Within criticality 0) }
+    ensures { refusal result ≡ unassured_by mode number (is_within criticality 0) }
 {
     match mode {
         Mode::Low => Ok(()),

@@ -2,7 +2,7 @@ ghost use Rattle.std.specs.Prelude.{◌≡◌, ◌+◌, ◌^◌, ◌<◌, ◌≤
 ghost use Rattle.table.specs.Readers.{level_of};
 ghost use Rattle.table.specs.Tables.{draft_of};
 ghost use Rattle.table.specs.Tasks.{virtual_deadline};
-ghost use Rattle.runs.specs.States.{known, the_task, within as is_Within, is_high};
+ghost use Rattle.runs.specs.States.{known, the_task, within as is_within, is_high};
 ghost use Rattle.runs.specs.Choices.{deadline as the_deadline, contender as the_contender};
 
 use order::candidate::Candidate;
@@ -41,7 +41,7 @@ fn virtual_deadline_of(table: &Table, number: u32) -> Ticks
 
 // Whether a job is high, or has had less than its assured part.
 pub(crate) fn within(criticality: Criticality, run: Ticks) -> bool
-    ensures { result ≡ is_Within criticality run.0 }
+    ensures { result ≡ is_within criticality run.0 }
 {
     match criticality {
         Criticality::High => true,
