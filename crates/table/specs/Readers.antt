@@ -4,9 +4,7 @@ use Rattle.tasks.specs.declared.units.Ticks.{Ticks}
 use Rattle.tasks.specs.declared.units.Shares.{Shares}
 use Rattle.tasks.specs.declared.task.Task.{Task}
 use Rattle.tasks.specs.declared.task.Level.{Level}
-use Rattle.tasks.specs.declared.task.Level.TheVariants.{High as HighLevel, Low as LowLevel}
-use Rattle.tasks.specs.declared.task.Criticality.{Criticality}
-use Rattle.tasks.specs.declared.task.Criticality.TheVariants.{High, Low}
+pub use Rattle.tasks.specs.Levels.{level_of}
 use Rattle.table.specs.Tasks.{ticks, shares, weight, virtual_deadline}
 use Rattle.table.specs.Verdict.{Draft, in_range}
 
@@ -23,10 +21,6 @@ weight_at d i = of_task (λ t. shares (weight d.scale t)) (task_at d i)
 
 abbrev pub deadline_at : Draft → ℕ → Option Ticks
 deadline_at d i = of_task (λ t. ticks (virtual_deadline d.factor t)) (task_at d i)
-
-abbrev pub level_of : Criticality → Level
-level_of High = HighLevel
-level_of (Low g) = LowLevel
 
 abbrev pub level_at : Draft → ℕ → Option Level
 level_at d i = of_task (λ t. level_of t.criticality) (task_at d i)

@@ -2,5 +2,6 @@
 #![tactic(auto)]
 
 pub mod refusal;
+pub mod slots;
 pub mod task;
 pub mod units;

@@ -3,6 +3,8 @@ ghost use Rattle.tasks.specs.Refusals.{number_of, task_of};
 
 use super::task::{Comparison, Factor, Task};
 use super::units::Shares;
+use std::error::Error;
+use std::fmt;
 
 // Why a table is refused, with the values that did not pass.
 #[derive(Clone, Copy, PartialEq, Eq, Debug)]
@@ -48,3 +50,56 @@ impl TableRefusal {
         }
     }
 }
+
+// The reason in a sentence.
+impl fmt::Display for TableRefusal {
+    fn fmt<W: fmt::Write>(&self, f: &mut fmt::Formatter<W>) -> fmt::Result {
+        match self {
+            TableRefusal::Count(count) => {
+                write!(f, "There are {count} tasks, and there must be 1 to 32.")
+            }
+            TableRefusal::Scale(scale) => write!(
+                f,
+                "The scale is {}, and must be 1 to 1000000 shares.",
+                scale.0
+            ),
+            TableRefusal::Factor(factor) => write!(
+                f,
+                "The factor is {}/{}, and must be p/q with q from 1 to 1000 and p from 1 to q.",
+                factor.p, factor.q
+            ),
+            TableRefusal::Total(total) => write!(
+                f,
+                "The total is {}, and must be 0 to 1000000 shares.",
+                total.0
+            ),
+            TableRefusal::Period(_, task) => write!(
+                f,
+                "Its period is {} ticks, and must be 1 to 100000 and divide the scale.",
+                task.period.0
+            ),
+            TableRefusal::VirtualDeadline(_, task) => write!(
+                f,
+                "Its virtual deadline, the factor times {} ticks, is not a whole number of ticks.",
+                task.period.0
+            ),
+            TableRefusal::Service(_, task) => write!(
+                f,
+                "Its worst is {} ticks, and must be 1 to its period, with an assured part of at most that.",
+                task.worst.0
+            ),
+            TableRefusal::LowTest(test) => write!(
+                f,
+                "It fails the low test: the tasks ask for {} and the processor has {}.",
+                test.demand.0, test.supply.0
+            ),
+            TableRefusal::HighTest(test) => write!(
+                f,
+                "It fails the high test: the tasks ask for {} and the processor has {}.",
+                test.demand.0, test.supply.0
+            ),
+        }
+    }
+}
+
+impl Error for TableRefusal {}

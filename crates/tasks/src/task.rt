@@ -1,3 +1,6 @@
+ghost use Rattle.std.specs.Prelude.{◌≡◌};
+ghost use Rattle.tasks.specs.Levels.{level_of, high_task, low_task};
+
 use super::units::{Shares, Ticks};
 
 // What a task is worth when time runs short: a low one keeps only its assured part of each job in high mode.
@@ -7,11 +10,22 @@ pub enum Criticality {
     Low { assured: Ticks },
 }
 
-// A task's criticality without its assured part.
-#[derive(Clone, Copy, PartialEq, Eq, Debug)]
+// A task's criticality without its assured part. A high one goes before a low one.
+#[derive(Clone, Copy, PartialEq, Eq, PartialOrd, Ord, Debug)]
 pub enum Level {
     High,
     Low,
+}
+
+impl From<Criticality> for Level {
+    ghost from_gives = { λ criticality level. level ≡ level_of criticality };
+
+    fn from(criticality: Criticality) -> Level {
+        match criticality {
+            Criticality::High => Level::High,
+            Criticality::Low { .. } => Level::Low,
+        }
+    }
 }
 
 // One job arrives at most every `period` and runs at most `worst`.
@@ -20,6 +34,37 @@ pub struct Task {
     pub period: Ticks,
     pub worst: Ticks,
     pub criticality: Criticality,
+}
+
+impl Task {
+    // What stands in a slot that holds no task.
+    pub const BLANK: Task = Task {
+        period: Ticks(0),
+        worst: Ticks(0),
+        criticality: Criticality::High,
+    };
+
+    // A high task.
+    pub fn high(period: Ticks, worst: Ticks) -> Task
+        ensures { result ≡ high_task period worst }
+    {
+        Task {
+            period,
+            worst,
+            criticality: Criticality::High,
+        }
+    }
+
+    // A low task, with the part of each job that it keeps in high mode.
+    pub fn low(period: Ticks, worst: Ticks, assured: Ticks) -> Task
+        ensures { result ≡ low_task period worst assured }
+    {
+        Task {
+            period,
+            worst,
+            criticality: Criticality::Low { assured },
+        }
+    }
 }
 
 // Virtual deadlines are p/q of the period.
