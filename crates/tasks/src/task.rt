@@ -1,5 +1,7 @@
 ghost use Rattle.std.specs.Prelude.{◌≡◌};
+ghost use Rattle.tasks.specs.Comparisons.{passes};
 ghost use Rattle.tasks.specs.Levels.{level_of, high_task, low_task};
+ghost use Rattle.tasks.specs.Parts.{low_assured, low_rest, high_worst};
 
 use super::units::{Shares, Ticks};
 
@@ -65,6 +67,36 @@ impl Task {
             criticality: Criticality::Low { assured },
         }
     }
+
+    // The assured part of a low task, and 0 of a high one.
+    pub fn low_assured(&self) -> Ticks
+        ensures { result.0 ≡ low_assured self.now }
+    {
+        match self.criticality {
+            Criticality::High => Ticks(0),
+            Criticality::Low { assured } => assured,
+        }
+    }
+
+    // What a low task may need beyond its assured part, and 0 of a high one.
+    pub fn low_rest(&self) -> Ticks
+        ensures { result.0 ≡ low_rest self.now }
+    {
+        match self.criticality {
+            Criticality::High => Ticks(0),
+            Criticality::Low { assured } => Ticks(self.worst.0.saturating_sub(assured.0)),
+        }
+    }
+
+    // The worst of a high task, and 0 of a low one.
+    pub fn high_worst(&self) -> Ticks
+        ensures { result.0 ≡ high_worst self.now }
+    {
+        match self.criticality {
+            Criticality::High => self.worst,
+            Criticality::Low { .. } => Ticks(0),
+        }
+    }
 }
 
 // Virtual deadlines are p/q of the period.
@@ -79,6 +111,14 @@ pub struct Factor {
 pub struct Comparison {
     pub demand: Shares,
     pub supply: Shares,
+}
+
+impl Comparison {
+    pub fn passes(&self) -> bool
+        ensures { result ≡ passes self.now }
+    {
+        self.demand <= self.supply
+    }
 }
 
 // The two tests of a table.
