@@ -1,7 +1,10 @@
 -- Items copied into blank slots, one by one.
-use Rattle.std.proofs.Common.{◌≡◌, ℕ, zero, suc, ◌+◌, ◌<◌, ◌≤◌, true, false, cond, ltb, ◌≢◌, List, [], ◌∷◌, length, get_or, set, replicate, sym, refl, ap, ◌∙◌, arith, get_or-set_other, get_or-set_same}
+use Rattle.std.proofs.Common.{◌≡◌, ℕ, zero, suc, ◌+◌, ◌-◌, ◌<◌, ◌≤◌, true, false, cond, ltb, ◌≢◌, List, [], ◌∷◌, ◌++◌, length, get_or, set, drop, replicate, sym, refl, ap, ◌∙◌, arith, get_or-set_other, get_or-set_same}
 use native.Mathlib.Decide.{ℕ_discrete, dec_le}
+use Rattle.std.proofs.Math.ListN.{get_or-append}
+use Rattle.std.proofs.Math.Seq.{get_or-append_right}
 use Rattle.std.proofs.lemmas.Bool.{lt-ltb, le-ltb}
+use Rattle.std.proofs.lemmas.List.{get_or-drop}
 
 module _ {A : Type 0} (blank : A) where
   pub blanks : (n k : ℕ) → get_or (replicate n blank) k blank ≡ blank
@@ -14,6 +17,14 @@ module _ {A : Type 0} (blank : A) where
   past [] k h = refl
   past (x ∷ xs) zero h = absurd (omega (arith, h))
   past (x ∷ xs) (suc k) h = past xs k (omega (arith, h))
+
+  -- items that are copied to the front of blank slots
+  pub copied : (n : ℕ) (xs ys : List A) → xs ≡ ys → (k : ℕ) → get_or (xs ++ drop (length ys) (replicate n blank)) k blank ≡ get_or ys k blank
+  copied n xs ys e k =
+      rw e (elim (dec_le (length ys) k) [
+        | yes l ↦ get_or-append_right ys _ k blank l ∙ get_or-drop (length ys) (replicate n blank) (k - length ys) blank ∙ blanks n _ ∙ sym (past ys k l)
+        | no l ↦ get_or-append ys _ blank k (omega arith)
+      ])
 
   -- the first i items, and blank slots behind them
   abbrev pub Filled : List A → List A → ℕ → Type 0

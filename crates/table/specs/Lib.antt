@@ -3,6 +3,6 @@ pub mod Firsts
 pub mod Tasks
 pub mod Verdict
 pub mod Accepted
-pub mod Parts
+pub mod Drafts
 pub mod Tables
 pub mod Readers

@@ -4,10 +4,10 @@ use Rattle.tasks.specs.declared.units.Shares.{Shares}
 use Rattle.tasks.specs.declared.task.Task.{Task}
 use Rattle.tasks.specs.declared.task.Factor.{Factor}
 use Rattle.tasks.specs.declared.task.Figures.{Figures}
-use Rattle.tasks.specs.declared.task.Comparison.{Comparison}
 use Rattle.tasks.specs.declared.task.Tests.{Tests}
 use Rattle.tasks.specs.declared.refusal.TableRefusal.{TableRefusal}
 use Rattle.tasks.specs.declared.refusal.TableRefusal.TheVariants.{Count, Scale, Factor as FactorOut, Total, Period, VirtualDeadline, Service, LowTest, HighTest}
+pub use Rattle.tasks.specs.Comparisons.{passes}
 use Rattle.table.specs.Firsts.{first_of, first_below, unless}
 use Rattle.table.specs.Tasks.{shares, slot, low_assured, low_rest, high_worst, weighted}
 
@@ -77,9 +77,6 @@ tests_by h b f s = record {
 
 abbrev pub tests_of : Draft → Tests
 tests_of d = tests_by d.scale d.total d.factor (figures_of d.scale d.count d.task)
-
-abbrev pub passes : Comparison → Bool
-passes c = nat_le c.demand.0 c.supply.0
 
 -- 8
 abbrev pub low_fault : Tests → Option TableRefusal

@@ -1,50 +1,54 @@
 ghost use Rattle.std.specs.Prelude.{◌≡◌, ℕ, ◌+◌, ◌*◌, ◌<◌, ◌≤◌, length, Some, None, Ok, Err};
-ghost use Rattle.table.specs.Parts.{part_of};
-ghost use Rattle.table.specs.Tasks.{slot, weight, weighted};
-ghost use Rattle.table.specs.Verdict.{tasks_fault, figures_of, figures_fault, drafted, shape_fault, tests_by, tests_of};
+ghost use Rattle.std.specs.Fn.{FnReturnsAt};
+ghost use Rattle.table.specs.Drafts.{as_drafted};
+ghost use Rattle.table.specs.Tasks.{slot, weight, low_assured, weighted};
+ghost use Rattle.table.specs.Verdict.{tasks_fault, figures_of, figures_fault, shape_fault, tests_by, tests_of};
 
-use super::checks::{check_count, check_factor, check_scale, check_tasks, check_total};
-use super::part::Part;
+use super::candidates::Candidates;
+use super::checks::{check_count, check_factor, check_scale, check_total};
+use super::draft::Draft;
 use tasks::refusal::TableRefusal;
-use tasks::task::{Comparison, Factor, Figures, Task, Tests};
+use tasks::task::{Comparison, Figures, Task, Tests};
 use tasks::units::{Shares, Ticks};
 
 // The task's weight times a part of it.
-fn share_of(scale: Shares, task: Task, part: Part) -> Shares
-    requires { (1 ≤ task.period.0) × (part_of part task ≤ task.period.0) }
-    ensures is { result.0 ≡ weight scale task * part_of part task }
+fn share_of(scale: Shares, task: &Task, part: Ticks) -> Shares
+    requires { (1 ≤ task.now.period.0) × (part.0 ≤ task.now.period.0) }
+    ensures is { result.0 ≡ weight scale task.now * part.0 }
     ensures small { result.0 ≤ scale.0 }
 {
-    let Ticks(ticks) = part.of(task);
-    Shares(scale.0 / task.period.0 * ticks)
+    Shares(scale.0 / task.period.0 * part.0)
 }
 
-// The sum of weight times part over the tasks.
-fn weighted_sum(scale: Shares, tasks: &[Task], part: Part) -> Shares
-    requires passed { tasks_fault scale None (length tasks.now) (slot tasks.now) ≡ None }
-    requires few { length tasks.now ≤ 32 }
-    requires small { scale.0 ≤ 1000000 }
-    ensures is { result.0 ≡ weighted scale (length tasks.now) (slot tasks.now) (part_of part) }
-    ensures below { result.0 ≤ 32 * 1000000 }
-{
-    let mut sum = 0;
-    for i in 0..tasks.len() {
-        sum += share_of(scale, tasks[i], part).0;
+impl Candidates<'_> {
+    // The sum of weight times part over the tasks.
+    fn weighted_sum<F: Fn(&Task) -> Ticks>(&self, part: F) -> Shares
+        ghost part_of: { Task → ℕ }
+        requires passed { tasks_fault self.now.scale self.now.factor (length self.now.tasks.now) (slot self.now.tasks.now) ≡ None }
+        requires callable { F.IsAlwaysCallable part }
+        requires gives { (t : Task) (r : Ticks) → FnReturnsAt F.Fn part t r → r.0 ≡ part_of t }
+        requires most { (t : Task) → low_assured t ≤ t.worst.0 → part_of t ≤ t.worst.0 }
+        ensures is { result.0 ≡ weighted self.now.scale (length self.now.tasks.now) (slot self.now.tasks.now) part_of }
+        ensures below { result.0 ≤ 32 * 1000000 }
+    {
+        let mut sum = 0;
+        for i in 0..self.tasks.len() {
+            let task = &self.tasks[i];
+            sum += share_of(self.scale, task, part(task)).0;
+        }
+        Shares(sum)
     }
-    Shares(sum)
-}
 
-fn figures_of(scale: Shares, tasks: &[Task]) -> Figures
-    requires passed { tasks_fault scale None (length tasks.now) (slot tasks.now) ≡ None }
-    requires few { length tasks.now ≤ 32 }
-    requires small { scale.0 ≤ 1000000 }
-    ensures is { result ≡ figures_of scale (length tasks.now) (slot tasks.now) }
-    ensures below { (result.assured.0 ≤ 32 * 1000000) × (result.optional.0 ≤ 32 * 1000000) × (result.high.0 ≤ 32 * 1000000) }
-{
-    Figures {
-        assured: weighted_sum(scale, tasks, Part::LowAssured),
-        optional: weighted_sum(scale, tasks, Part::LowRest),
-        high: weighted_sum(scale, tasks, Part::HighWorst),
+    fn figures(&self) -> Figures
+        requires { tasks_fault self.now.scale self.now.factor (length self.now.tasks.now) (slot self.now.tasks.now) ≡ None }
+        ensures is { result ≡ figures_of self.now.scale (length self.now.tasks.now) (slot self.now.tasks.now) }
+        ensures below { (result.assured.0 ≤ 32 * 1000000) × (result.optional.0 ≤ 32 * 1000000) × (result.high.0 ≤ 32 * 1000000) }
+    {
+        Figures {
+            assured: self.weighted_sum(Task::low_assured),
+            optional: self.weighted_sum(Task::low_rest),
+            high: self.weighted_sum(Task::high_worst),
+        }
     }
 }
 
@@ -54,42 +58,49 @@ pub fn figures(scale: Shares, tasks: &[Task]) -> Result<Figures, TableRefusal>
 {
     check_count(tasks.len())?;
     check_scale(scale)?;
-    check_tasks(scale, None, tasks)?;
-    Ok(figures_of(scale, tasks))
+    let candidates = Candidates {
+        scale,
+        factor: None,
+        tasks,
+    };
+    candidates.check()?;
+    Ok(candidates.figures())
 }
 
-fn tests_by(scale: Shares, total: Shares, factor: Factor, figures: Figures) -> Tests
-    requires small { (scale.0 ≤ 1000000) × (total.0 ≤ 1000000) × (factor.q ≤ 1000) × (factor.p ≤ 1000) }
-    requires below { (figures.assured.0 ≤ 32 * 1000000) × (figures.optional.0 ≤ 32 * 1000000) × (figures.high.0 ≤ 32 * 1000000) }
-    ensures { result ≡ tests_by scale total factor figures }
-{
-    let p = factor.p as u64;
-    let q = factor.q as u64;
-    Tests {
-        low: Comparison {
-            demand: Shares(q * total.0 + q * figures.assured.0 + p * figures.optional.0),
-            supply: Shares(p * scale.0),
-        },
-        high: Comparison {
-            demand: Shares(p * figures.optional.0 + q * (figures.high.0 + figures.assured.0)),
-            supply: Shares(q * scale.0),
-        },
+impl Draft<'_> {
+    fn tests_by(&self, figures: Figures) -> Tests
+        requires small { (self.now.scale.0 ≤ 1000000) × (self.now.total.0 ≤ 1000000) × (self.now.factor.q ≤ 1000) × (self.now.factor.p ≤ 1000) }
+        requires below { (figures.assured.0 ≤ 32 * 1000000) × (figures.optional.0 ≤ 32 * 1000000) × (figures.high.0 ≤ 32 * 1000000) }
+        ensures { result ≡ tests_by self.now.scale self.now.total self.now.factor figures }
+    {
+        let p = self.factor.p as u64;
+        let q = self.factor.q as u64;
+        Tests {
+            low: Comparison {
+                demand: Shares(q * self.total.0 + q * figures.assured.0 + p * figures.optional.0),
+                supply: Shares(p * self.scale.0),
+            },
+            high: Comparison {
+                demand: Shares(p * figures.optional.0 + q * (figures.high.0 + figures.assured.0)),
+                supply: Shares(q * self.scale.0),
+            },
+        }
     }
-}
 
-// Both tests of a draft that passes 1 to 7.
-pub fn tests(
-    scale: Shares,
-    total: Shares,
-    factor: Factor,
-    tasks: &[Task],
-) -> Result<Tests, TableRefusal>
-    ensures { elim result [ Ok t ↦ (shape_fault (drafted scale total factor (length tasks.now) tasks.now) ≡ None) × (t ≡ tests_of (drafted scale total factor (length tasks.now) tasks.now)) | Err e ↦ shape_fault (drafted scale total factor (length tasks.now) tasks.now) ≡ Some e ] }
-{
-    check_count(tasks.len())?;
-    check_scale(scale)?;
-    check_factor(factor)?;
-    check_total(total)?;
-    check_tasks(scale, Some(factor), tasks)?;
-    Ok(tests_by(scale, total, factor, figures_of(scale, tasks)))
+    // Both tests of a draft that passes 1 to 7.
+    pub fn tests(&self) -> Result<Tests, TableRefusal>
+        ensures { elim result [ Ok t ↦ (shape_fault (as_drafted self.now) ≡ None) × (t ≡ tests_of (as_drafted self.now)) | Err e ↦ shape_fault (as_drafted self.now) ≡ Some e ] }
+    {
+        check_count(self.tasks.len())?;
+        check_scale(self.scale)?;
+        check_factor(self.factor)?;
+        check_total(self.total)?;
+        let candidates = Candidates {
+            scale: self.scale,
+            factor: Some(self.factor),
+            tasks: self.tasks,
+        };
+        candidates.check()?;
+        Ok(self.tests_by(candidates.figures()))
+    }
 }

@@ -2,8 +2,10 @@
 #![tactic(auto)]
 
 pub mod accept;
+mod candidates;
 mod checks;
+pub mod draft;
 pub mod figures;
-mod part;
 pub mod readers;
 pub mod table;
+mod unless;

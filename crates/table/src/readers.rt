@@ -3,7 +3,8 @@ ghost use Rattle.table.specs.Tables.{draft_of};
 ghost use Rattle.table.specs.Readers.{task_at, weight_at, deadline_at, level_at};
 
 use super::table::Table;
-use tasks::task::{Criticality, Factor, Level, Task};
+use tasks::slots::at_number;
+use tasks::task::{Factor, Level, Task};
 use tasks::units::{Shares, Ticks};
 
 impl Table {
@@ -36,42 +37,30 @@ impl Table {
     pub fn task(&self, number: u32) -> Option<Task>
         ensures { result ≡ task_at (draft_of self.now) number }
     {
-        if number == 0 || number as usize > self.count {
-            return None;
-        }
-        Some(self.tasks[number as usize - 1])
+        at_number(&self.tasks[..self.count], number)
     }
 
     // The weight of the task of a number.
     pub fn weight(&self, number: u32) -> Option<Shares>
         ensures { result ≡ weight_at (draft_of self.now) number }
     {
-        match self.task(number) {
-            Some(task) => Some(Shares(self.scale.0 / task.period.0)),
-            None => None,
-        }
+        let task = self.task(number)?;
+        Some(Shares(self.scale.0 / task.period.0))
     }
 
     // The virtual deadline of the task of a number, in ticks after an arrival.
     pub fn virtual_deadline(&self, number: u32) -> Option<Ticks>
         ensures { result ≡ deadline_at (draft_of self.now) number }
     {
-        match self.task(number) {
-            Some(task) => Some(Ticks(self.factor.p as u64 * task.period.0 / self.factor.q as u64)),
-            None => None,
-        }
+        let task = self.task(number)?;
+        let Factor { p, q } = self.factor;
+        Some(Ticks(p as u64 * task.period.0 / q as u64))
     }
 
     // Whether the task of a number is high or low, or none where it is absent.
     pub fn level(&self, number: u32) -> Option<Level>
         ensures { result ≡ level_at (draft_of self.now) number }
     {
-        match self.task(number) {
-            Some(task) => Some(match task.criticality {
-                Criticality::High => Level::High,
-                Criticality::Low { assured } => Level::Low,
-            }),
-            None => None,
-        }
+        self.task(number).map(|task| Level::from(task.criticality))
     }
 }

@@ -4,20 +4,22 @@ use Rattle.tasks.specs.declared.refusal.TableRefusal.{TableRefusal}
 use Rattle.table.specs.Tasks.{slot}
 use Rattle.table.specs.Verdict.{task_fault}
 use Rattle.table.proofs.Firsts.{first_below_none, first_below_more, first_below_stays}
-use Rattle.table.proofs.checks.check_tasks.Goals as goal
+use Rattle.table.proofs.candidates.Candidates.check.Goals as goal
 
 pub loop-i-init : goal.loop-i-init
 loop-i-init c = first_below_none _
 
 pub returns-in_err-check_task : goal.returns-in_err-check_task
 returns-in_err-check_task c =
+    let x = c.args.self.now in
     let p = err_from_is_err_and c.from_residual.result c.from_residual.ensures.1 in
-    let F : ℕ → Option TableRefusal = λ k. task_fault c.args.scale c.args.factor (k + 1) (slot c.args.tasks.now k) in
+    let F : ℕ → Option TableRefusal = λ k. task_fault x.scale x.factor (k + 1) (slot x.tasks.now k) in
     let i = c.loop-i.i in
-    let low : i + 1 ≤ length c.args.tasks.now = omega arith in
-    rw (p.1, p.2) (sym (first_below_stays (length c.args.tasks.now) (i + 1) F _ low (first_below_more i F ∙ rw c.loop-i.invariant (sym c.in_err-check_task.ensures))))
+    let low : i + 1 ≤ length x.tasks.now = omega arith in
+    rw (p.1, p.2) (sym (first_below_stays (length x.tasks.now) (i + 1) F _ low (first_below_more i F ∙ rw c.loop-i.invariant (sym c.in_err-check_task.ensures))))
 
 pub loop-i-preserved : goal.loop-i-preserved
 loop-i-preserved c =
-    let F : ℕ → Option TableRefusal = λ k. task_fault c.args.scale c.args.factor (k + 1) (slot c.args.tasks.now k) in
+    let x = c.args.self.now in
+    let F : ℕ → Option TableRefusal = λ k. task_fault x.scale x.factor (k + 1) (slot x.tasks.now k) in
     first_below_more c.loop-i.i F ∙ rw c.loop-i.invariant (sym c.in_ok-check_task.ensures)
