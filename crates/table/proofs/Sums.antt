@@ -11,6 +11,10 @@ pub sum_more : (n : ℕ) (f : ℕ → ℕ) → sum (n + 1) f ≡ sum n f + f n
 unfolding sum
 sum_more n f = rw (add-one n)
 
+-- a sum that a loop makes, with the next term
+pub sum_next : (n s x : ℕ) (f : ℕ → ℕ) → s ≡ sum n f → x ≡ f n → s + x ≡ sum (n + 1) f
+sum_next n s x f e h = omega (arith, sum_more n f)
+
 -- sums of equal terms are equal
 pub sum_same : (n : ℕ) (f g : ℕ → ℕ) → ((k : ℕ) → k < n → f k ≡ g k) → sum n f ≡ sum n g
 unfolding sum

@@ -1,9 +1,9 @@
-use Rattle.std.proofs.Common.{ℕ, ◌+◌, ◌≤◌, length, Option, sym, ◌∙◌, arith}
+use Rattle.std.proofs.Common.{ℕ, ◌+◌, Option, sym}
 use Rattle.std.proofs.lemmas.Result.{err_from_is_err_and}
 use Rattle.tasks.specs.declared.refusal.TableRefusal.{TableRefusal}
 use Rattle.table.specs.Tasks.{slot}
 use Rattle.table.specs.Verdict.{task_fault}
-use Rattle.table.proofs.Firsts.{first_below_none, first_below_more, first_below_stays}
+use Rattle.table.proofs.Firsts.{first_below_none, first_below_next, first_below_here}
 use Rattle.table.proofs.candidates.Candidates.check.Goals as goal
 
 pub loop-i-init : goal.loop-i-init
@@ -14,12 +14,7 @@ returns-in_err-check_task c =
     let x = c.args.self.now in
     let p = err_from_is_err_and c.from_residual.result c.from_residual.ensures.1 in
     let F : ℕ → Option TableRefusal = λ k. task_fault x.scale x.factor (k + 1) (slot x.tasks.now k) in
-    let i = c.loop-i.i in
-    let low : i + 1 ≤ length x.tasks.now = omega arith in
-    rw (p.1, p.2) (sym (first_below_stays (length x.tasks.now) (i + 1) F _ low (first_below_more i F ∙ rw c.loop-i.invariant (sym c.in_err-check_task.ensures))))
+    rw (p.1, p.2) (sym (first_below_here _ c.loop-i.i F _ c.loop-i-test.true c.loop-i.invariant (sym c.in_err-check_task.ensures)))
 
 pub loop-i-preserved : goal.loop-i-preserved
-loop-i-preserved c =
-    let x = c.args.self.now in
-    let F : ℕ → Option TableRefusal = λ k. task_fault x.scale x.factor (k + 1) (slot x.tasks.now k) in
-    first_below_more c.loop-i.i F ∙ rw c.loop-i.invariant (sym c.in_ok-check_task.ensures)
+loop-i-preserved c = first_below_next c.loop-i.i _ c.loop-i.invariant (sym c.in_ok-check_task.ensures)

@@ -5,11 +5,10 @@ use Rattle.table.specs.Verdict.{verdict}
 use Rattle.table.proofs.Accepted.{accepted, refused, same_draft, is_none}
 use Rattle.table.proofs.table.Table.accept.Goals as goal
 
-pub returns-in_err-check : goal.returns-in_err-check
-returns-in_err-check c =
-    let p = err_from_is_err_and c.from_residual.result c.from_residual.ensures.1 in
-    let said = c.in_err-check.ensures in
-    rw (p.1, p.2) (record { verdict = said; parts = tt; exact = refused (as_drafted c.args.draft.now) _ said })
+pub returns-in_err-check-clause-exact : goal.returns-in_err-check-clause-exact
+returns-in_err-check-clause-exact c =
+    let e = err_from_is_err_and c.from_residual.result c.from_residual.ensures.1 in
+    rw e.1 (refused (as_drafted c.args.draft.now) _ c.in_err-check.ensures)
 
 pub invariant_of-result : goal.invariant_of-result
 invariant_of-result c =
@@ -18,12 +17,10 @@ invariant_of-result c =
     let same = same_draft d.scale d.total d.factor (length ts) c.slots_of.result ts c.slots_of.ensures in
     record { accepted = is_none _ (c.in_ok-check.ensures ∙ ap verdict (sym same)) }
 
-pub returns : goal.returns
-returns c =
+pub returns-clause-parts : goal.returns-clause-parts
+returns-clause-parts c =
     let d = c.args.draft.now in
-    let ts = d.tasks.now in
-    record {
-      verdict = c.in_ok-check.ensures;
-      parts = same_draft d.scale d.total d.factor (length ts) c.slots_of.result ts c.slots_of.ensures;
-      exact = accepted (as_drafted d) (sym c.in_ok-check.ensures);
-    }
+    same_draft d.scale d.total d.factor (length d.tasks.now) c.slots_of.result d.tasks.now c.slots_of.ensures
+
+pub returns-clause-exact : goal.returns-clause-exact
+returns-clause-exact c = accepted (as_drafted c.args.draft.now) (sym c.in_ok-check.ensures)
