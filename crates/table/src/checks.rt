@@ -62,13 +62,10 @@ impl Candidates<'_> {
     fn check_deadline(&self, number: u32, task: &Task) -> Result<(), TableRefusal>
         ensures { refusal result ≡ deadline_fault self.now.factor number task.now }
     {
-        let Some(f) = self.factor else {
-            return Ok(());
-        };
-        refuse_unless(
-            f.p as u128 * task.period.0 as u128 % f.q as u128 == 0,
-            TableRefusal::VirtualDeadline(number, *task),
-        )
+        let whole = self
+            .factor
+            .is_none_or(|f| f.p as u128 * task.period.0 as u128 % f.q as u128 == 0);
+        refuse_unless(whole, TableRefusal::VirtualDeadline(number, *task))
     }
 
     fn check_task(&self, number: u32, task: &Task) -> Result<(), TableRefusal>

@@ -4,7 +4,7 @@ ghost use Rattle.table.specs.Verdict.{drafted, verdict};
 use tasks::task::{Factor, Task};
 use tasks::units::Shares;
 
-// A table that exists has passed every test. Slots past the last task are blank.
+// A table that exists has passed every test. Its memory is fixed: 32 slots beside the count of tasks, and blank slots past the last task.
 #[derive(Clone, Copy)]
 pub struct Table {
     pub(crate) scale: Shares,
