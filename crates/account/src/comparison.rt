@@ -38,13 +38,10 @@ pub fn print_comparisons(rt: &HostRuntime, table: &Table) -> io::Result<()> {
 }
 
 fn ticks_in(calls: &[Call]) -> usize {
-    let mut ticks: usize = 0;
-    for call in calls {
-        if let Call::Tick(_) = call {
-            ticks = ticks.saturating_add(1);
-        }
-    }
-    ticks
+    calls
+        .iter()
+        .filter(|call| matches!(call, Call::Tick(_)))
+        .count()
 }
 
 fn print_comparison(

@@ -1,6 +1,7 @@
+use table::draft::Draft;
 use table::table::Table;
 use tasks::refusal::TableRefusal;
-use tasks::task::{Criticality, Factor, Task};
+use tasks::task::{Factor, Task};
 use tasks::units::{Shares, Ticks};
 
 // How many ticks play.
@@ -9,21 +10,13 @@ pub const TICKS: usize = 6;
 // The ticks that each task's job needs.
 pub const NEEDS: [u64; 3] = [2, 1, 2];
 
-fn task(worst: u64, criticality: Criticality) -> Task {
-    Task {
-        period: Ticks(10),
-        worst: Ticks(worst),
-        criticality,
-    }
-}
-
 // Table E: one low task that draws, two high ones that move things.
 pub fn table_e() -> Result<Table, TableRefusal> {
-    let low = Criticality::Low { assured: Ticks(0) };
-    let tasks = [
-        task(5, low),
-        task(4, Criticality::High),
-        task(4, Criticality::High),
-    ];
-    Table::accept(Shares(10), Shares(2), Factor { p: 2, q: 5 }, &tasks)
+    let high = Task::high(Ticks(10), Ticks(4));
+    Table::accept(&Draft {
+        scale: Shares(10),
+        total: Shares(2),
+        factor: Factor { p: 2, q: 5 },
+        tasks: &[Task::low(Ticks(10), Ticks(5), Ticks(0)), high, high],
+    })
 }

@@ -6,6 +6,7 @@ use runs::answer::{Answer, Ending, Mode};
 use runs::call::Mark;
 use std::io;
 use table::table::Table;
+use tasks::slots::at_number;
 
 type Line<'o> = Dispatcher<'o, Shared, ByNumber>;
 
@@ -13,8 +14,8 @@ type Line<'o> = Dispatcher<'o, Shared, ByNumber>;
 pub fn print_run(rt: &HostRuntime, table: &Table) -> io::Result<()> {
     let mut line = Dispatcher::new(table, Shared::new(table), &ByNumber);
     println!(rt; "Table E under the shared budget")?;
-    for i in 0..NEEDS.len() {
-        print_arrival(rt, &mut line, i as u32 + 1, NEEDS[i])?;
+    for (task, need) in (1..).zip(NEEDS) {
+        print_arrival(rt, &mut line, task, need)?;
     }
     for _ in 0..TICKS {
         print_tick(rt, &mut line)?;
@@ -35,20 +36,19 @@ fn print_arrival(rt: &HostRuntime, line: &mut Line<'_>, task: u32, need: u64) ->
     }
 }
 
+// The ticks that the job which runs next still needs, if there is one.
+fn left_to_run(line: &Line<'_>) -> Option<u64> {
+    let task = line.coming()?;
+    let job = line.job(task)?;
+    at_number(&NEEDS, task)?.checked_sub(job.run.0)
+}
+
 // A tick is marked done where the task that it runs has then had what it needs.
 fn mark_of(line: &Line<'_>) -> Mark {
-    let Some(task) = line.coming() else {
-        return Mark::NotDone;
-    };
-    let Some(job) = line.job(task) else {
-        return Mark::NotDone;
-    };
-    for i in 0..NEEDS.len() {
-        if i as u32 + 1 == task && job.run.0 < NEEDS[i] && NEEDS[i] - job.run.0 == 1 {
-            return Mark::Done;
-        }
+    match left_to_run(line) {
+        Some(1) => Mark::Done,
+        _ => Mark::NotDone,
     }
-    Mark::NotDone
 }
 
 fn print_tick(rt: &HostRuntime, line: &mut Line<'_>) -> io::Result<()> {
@@ -83,6 +83,7 @@ fn print_answer(rt: &HostRuntime, answer: Answer) -> io::Result<()> {
     println!(rt; "  Clock {clock}: task {task} runs in {mode} mode{ending}.")
 }
 
+// A plain loop: after a filter it is not known that a slot is below 32, as `slot + 1` needs.
 fn print_dropped(rt: &HostRuntime, dropped: u32) -> io::Result<()> {
     for slot in 0..32u32 {
         if dropped & (1 << slot) != 0 {

@@ -58,43 +58,40 @@ mod tests {
     use budget::fixed::Fixed;
     use budget::shared::Shared;
     use std::test::Fail;
-    use table::accept;
+    use table::draft::Draft;
     use table::table::Table;
-    use tasks::task::{Criticality, Factor, Task};
+    use tasks::task::{Factor, Task};
 
-    fn task(period: u64, worst: u64, criticality: Criticality) -> Task {
-        Task {
-            period: Ticks(period),
-            worst: Ticks(worst),
-            criticality,
-        }
+    fn high(period: u64, worst: u64) -> Task {
+        Task::high(Ticks(period), Ticks(worst))
+    }
+
+    fn accepted(draft: Draft<'_>) -> Result<Table, Fail> {
+        Table::accept(&draft).map_err(|_| Fail::new("refused"))
     }
 
     // One low task and two high ones; the total is given.
     fn press(total: u64) -> Result<Table, Fail> {
-        let low = Criticality::Low { assured: Ticks(0) };
-        let tasks = [
-            task(10, 5, low),
-            task(10, 4, Criticality::High),
-            task(10, 4, Criticality::High),
-        ];
-        match Table::accept(Shares(10), Shares(total), Factor { p: 2, q: 5 }, &tasks) {
-            Ok(table) => Ok(table),
-            Err(_) => Err(Fail::new("refused")),
-        }
+        accepted(Draft {
+            scale: Shares(10),
+            total: Shares(total),
+            factor: Factor { p: 2, q: 5 },
+            tasks: &[
+                Task::low(Ticks(10), Ticks(5), Ticks(0)),
+                high(10, 4),
+                high(10, 4),
+            ],
+        })
     }
 
     // One high task with the largest weight that there is.
     fn heavy() -> Result<Table, Fail> {
-        match Table::accept(
-            Shares(1_000_000),
-            Shares(1_000_000),
-            Factor { p: 1, q: 1 },
-            &[task(1, 1, Criticality::High)],
-        ) {
-            Ok(table) => Ok(table),
-            Err(_) => Err(Fail::new("refused")),
-        }
+        accepted(Draft {
+            scale: Shares(1_000_000),
+            total: Shares(1_000_000),
+            factor: Factor { p: 1, q: 1 },
+            tasks: &[high(1, 1)],
+        })
     }
 
     #[test]
@@ -140,34 +137,29 @@ mod tests {
     #[test]
     fn fixed_budgets(rt: HostRuntime) -> Result<(), Fail> {
         let table = press(2)?;
-        let lists: [(&[Ticks], u8, u32); 6] = [
-            (&[Ticks(0), Ticks(1)], 15, 0),
-            (&[Ticks(0), Ticks(1), Ticks(1), Ticks(0)], 15, 0),
-            (&[Ticks(1), Ticks(100_001), Ticks(0)], 15, 1),
-            (&[Ticks(0), Ticks(2), Ticks(100_001)], 16, 3),
-            (&[Ticks(0), Ticks(100_000), Ticks(0)], 17, 0),
-            (&[Ticks(0), Ticks(2), Ticks(1)], 17, 0),
+        let lists: [(&[Ticks], u8, Option<u32>); 6] = [
+            (&[Ticks(0), Ticks(1)], 15, None),
+            (&[Ticks(0), Ticks(1), Ticks(1), Ticks(0)], 15, None),
+            (&[Ticks(1), Ticks(100_001), Ticks(0)], 15, Some(1)),
+            (&[Ticks(0), Ticks(2), Ticks(100_001)], 16, Some(3)),
+            (&[Ticks(0), Ticks(100_000), Ticks(0)], 17, None),
+            (&[Ticks(0), Ticks(2), Ticks(1)], 17, None),
         ];
         for (list, number, task) in lists {
-            match Fixed::new(&table, list) {
-                Ok(_) => return Err(Fail::new("made")),
-                Err(refusal) => {
-                    assert_eq!(rt; refusal.number(), number);
-                    assert_eq!(rt; refusal.task().unwrap_or(0), task);
-                }
-            }
+            let reason = Fixed::new(&table, list)
+                .err()
+                .map(|refusal| (refusal.number(), refusal.task()));
+            assert_eq!(rt; reason, Some((number, task)));
         }
-        match Fixed::new(&table, &[Ticks(0), Ticks(1), Ticks(1)]) {
-            Ok(mut rule) => {
-                assert!(rt; rule.grant(2, Ticks(0)));
-                assert!(rt; !rule.grant(2, Ticks(1)));
-                assert!(rt; !rule.ask(1, Ticks(0)));
-                assert!(rt; !rule.ask(2, Ticks(u64::MAX)));
-                assert_eq!(rt; rule.budget(3).0, 1);
-                Ok(())
-            }
-            Err(_) => Err(Fail::new("refused")),
-        }
+        let mut rule = Fixed::new(&table, &[Ticks(0), Ticks(1), Ticks(1)]).map_err(|_| Fail::new(
+            "refused",
+        ))?;
+        assert!(rt; rule.grant(2, Ticks(0)));
+        assert!(rt; !rule.grant(2, Ticks(1)));
+        assert!(rt; !rule.ask(1, Ticks(0)));
+        assert!(rt; !rule.ask(2, Ticks(u64::MAX)));
+        assert_eq!(rt; rule.budget(3).0, 1);
+        Ok(())
     }
 
     #[test]
@@ -179,28 +171,25 @@ mod tests {
             &[Ticks(0), Ticks(0), Ticks(100_001)],
         ];
         for list in lists {
-            match Ceiling::new(&table, Shared::new(&table), list) {
-                Ok(_) => return Err(Fail::new("made")),
-                Err(refused) => assert_eq!(rt; refused.refusal.number(), 18),
-            }
+            let number = Ceiling::new(&table, Shared::new(&table), list)
+                .err()
+                .map(|refused| refused.refusal.number());
+            assert_eq!(rt; number, Some(18));
         }
-        match Ceiling::new(
+        let mut rule = Ceiling::new(
             &table,
             Shared::new(&table),
             &[Ticks(100_000), Ticks(1), Ticks(0)],
-        ) {
-            Ok(mut rule) => {
-                for (number, budget) in [(0, 0), (1, 0), (2, 1), (3, 0), (33, 0)] {
-                    assert_eq!(rt; rule.budget(number).0, budget);
-                    assert!(rt; !rule.ask(number, Ticks(u64::MAX)));
-                }
-                assert!(rt; rule.grant(2, Ticks(0)));
-                assert!(rt; !rule.grant(2, Ticks(1)));
-                assert!(rt; !rule.grant(3, Ticks(0)));
-                Ok(())
-            }
-            Err(_) => Err(Fail::new("refused")),
+        )
+        .map_err(|_| Fail::new("refused"))?;
+        for (number, budget) in [(0, 0), (1, 0), (2, 1), (3, 0), (33, 0)] {
+            assert_eq!(rt; rule.budget(number).0, budget);
+            assert!(rt; !rule.ask(number, Ticks(u64::MAX)));
         }
+        assert!(rt; rule.grant(2, Ticks(0)));
+        assert!(rt; !rule.grant(2, Ticks(1)));
+        assert!(rt; !rule.grant(3, Ticks(0)));
+        Ok(())
     }
 
     #[test]

@@ -1,4 +1,5 @@
-ghost use Rattle.std.specs.Prelude.{◌≡◌, [], length, Ok, Err};
+ghost use Rattle.std.specs.Prelude.{◌≡◌, [], Ok, Err};
+ghost use Rattle.table.specs.Drafts.{as_drafted};
 ghost use Rattle.table.specs.Firsts.{refusal};
 ghost use Rattle.table.specs.Tables.{draft_of};
 ghost use Rattle.table.specs.Verdict.{verdict};
@@ -6,16 +7,11 @@ ghost use Rattle.transcript.specs.Steps.{with_task};
 ghost use Rattle.play.specs.Views.{tasks_of, draft_in};
 
 use super::outline::Outline;
+use table::draft::Draft;
 use table::table::Table;
 use tasks::refusal::TableRefusal;
-use tasks::task::{Criticality, Factor, Task};
-use tasks::units::{Shares, Ticks};
-
-const BLANK: Task = Task {
-    period: Ticks(0),
-    worst: Ticks(0),
-    criticality: Criticality::High,
-};
+use tasks::task::{Factor, Task};
+use tasks::units::Shares;
 
 impl Outline {
     // No task yet.
@@ -26,7 +22,7 @@ impl Outline {
             scale,
             total,
             factor,
-            tasks: [BLANK; 33],
+            tasks: [Task::BLANK; 33],
             count: 0,
         }
     }
@@ -42,11 +38,16 @@ impl Outline {
         }
     }
 
-    // The tasks so far.
-    fn kept(&self) -> &[Task]
-        ensures { result.now ≡ tasks_of self.now }
+    // The draft of the tasks so far.
+    fn draft(&self) -> Draft<'_>
+        ensures { as_drafted result ≡ draft_in self.now }
     {
-        &self.tasks[0..self.count]
+        Draft {
+            scale: self.scale,
+            total: self.total,
+            factor: self.factor,
+            tasks: &self.tasks[..self.count],
+        }
     }
 
     // The table, if it is accepted.
@@ -54,6 +55,6 @@ impl Outline {
         ensures verdict { refusal result ≡ verdict (draft_in self.now) }
         ensures parts { elim result [ Ok t ↦ draft_of t ≡ draft_in self.now | Err e ↦ Unit {0} ] }
     {
-        Table::accept(self.scale, self.total, self.factor, self.kept())
+        Table::accept(&self.draft())
     }
 }
