@@ -7,7 +7,7 @@ use super::candidates::Candidates;
 use super::unless::refuse_unless;
 use tasks::refusal::TableRefusal;
 use tasks::task::{Factor, Task};
-use tasks::units::Shares;
+use tasks::units::{Shares, Ticks};
 
 pub(crate) fn check_count(count: usize) -> Result<(), TableRefusal>
     ensures { refusal result ≡ count_fault count }
@@ -19,7 +19,7 @@ pub(crate) fn check_scale(scale: Shares) -> Result<(), TableRefusal>
     ensures { refusal result ≡ scale_fault scale }
 {
     refuse_unless(
-        (1..=1_000_000).contains(&scale.0),
+        (Shares(1)..=Shares(1_000_000)).contains(&scale),
         TableRefusal::Scale(scale),
     )
 }
@@ -36,14 +36,14 @@ pub(crate) fn check_factor(factor: Factor) -> Result<(), TableRefusal>
 pub(crate) fn check_total(total: Shares) -> Result<(), TableRefusal>
     ensures { refusal result ≡ total_fault total }
 {
-    refuse_unless(total.0 <= 1_000_000, TableRefusal::Total(total))
+    refuse_unless(total <= Shares(1_000_000), TableRefusal::Total(total))
 }
 
 fn check_service(number: u32, task: &Task) -> Result<(), TableRefusal>
     ensures { refusal result ≡ service_fault number task.now }
 {
     refuse_unless(
-        (1..=task.period.0).contains(&task.worst.0) && task.low_assured() <= task.worst,
+        (Ticks(1)..=task.period).contains(&task.worst) && task.low_assured() <= task.worst,
         TableRefusal::Service(number, *task),
     )
 }
@@ -52,9 +52,8 @@ impl Candidates<'_> {
     fn check_period(&self, number: u32, task: &Task) -> Result<(), TableRefusal>
         ensures { refusal result ≡ period_fault self.now.scale number task.now }
     {
-        let period = task.period.0;
         refuse_unless(
-            (1..=100_000).contains(&period) && self.scale.0 % period == 0,
+            (Ticks(1)..=Ticks(100_000)).contains(&task.period) && self.scale.0 % task.period.0 == 0,
             TableRefusal::Period(number, *task),
         )
     }

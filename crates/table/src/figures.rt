@@ -21,7 +21,7 @@ fn share_of(scale: Shares, task: &Task, part: Ticks) -> Shares
 }
 
 impl Candidates<'_> {
-    // The sum of weight times part over the tasks.
+    // The sum of weight times part over the tasks: a loop with an index, as every sum over a table's tasks here.
     fn weighted_sum<F: Fn(&Task) -> Ticks>(&self, part: F) -> Shares
         ghost part_of: { Task → ℕ }
         requires passed { tasks_fault self.now.scale self.now.factor (length self.now.tasks.now) (slot self.now.tasks.now) ≡ None }
