@@ -25,7 +25,7 @@ impl Shared {
         ensures is { result.0 ≡ budget_of_shared self.now task }
         ensures tied { (run : ℕ) → (meaning_of_shared self.now).yes task run ≡ nat_lt run result.0 }
     {
-        let Shares(weight) = self.tally.weight(task);
+        let Shares(weight) = self.tally.weights.of(task);
         if weight == 0 {
             return Ticks(0);
         }
@@ -45,11 +45,11 @@ impl Rule for Shared {
     ghost fits = { Prim.search rules };
 
     fn ask(&self, task: u32, run: Ticks) -> bool {
-        self.spare(task).0 > run.0
+        self.spare(task) > run
     }
 
     fn grant(&mut self, task: u32, run: Ticks) -> bool {
-        let may = run.0 < self.spare(task).0;
+        let may = run < self.spare(task);
         if may {
             self.tally.raise(task, run);
         }
@@ -61,11 +61,11 @@ impl Rule for Shared {
     }
 
     fn weight(&self, task: u32) -> Shares {
-        self.tally.weight(task)
+        self.tally.weights.of(task)
     }
 
     fn total(&self) -> Shares {
-        self.tally.total
+        self.tally.weights.total
     }
 }
 

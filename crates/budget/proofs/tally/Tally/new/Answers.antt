@@ -1,16 +1,6 @@
-use Rattle.std.proofs.Common.{suc, ◌∙◌, arith}
-use Rattle.table.specs.Tables.{draft_of}
-use Rattle.table.proofs.Tables.{table_accepted}
-use Rattle.budget.proofs.Weighing.{rule_weight_past}
+use Rattle.std.proofs.Common.{arith}
+use Rattle.budget.specs.Slots.{weight_in}
 use Rattle.budget.proofs.tally.Tally.new.Goals as goal
 
 pub invariant_of-result : goal.invariant_of-result
-invariant_of-result c =
-    let t = c.args.table.now in
-    record {
-      few = omega (arith, (table_accepted t).few, c.count.ensures);
-      absent = λ k h. c.rule_weights.ensures (suc k) ∙ rule_weight_past (draft_of t) k (omega (arith, c.count.ensures));
-    }
-
-pub returns : goal.returns
-returns c = (c.rule_weights.ensures, c.total.ensures, c.no_runs.ensures.zero, c.count.ensures)
+invariant_of-result c = record { within = omega (arith, c.no_runs.ensures.load (weight_in c.new.result.by_slot)) }
