@@ -30,8 +30,9 @@ pub struct CeilingRefused<R> {
 fn check_ceilings(table: &Table, ceilings: &[Ticks]) -> Result<(), CeilingRefusal>
     ensures { refusal result ≡ ceiling_fault (draft_of table.now) ceilings.now }
 {
-    check_count(table, ceilings)
-        .map_err(|(ceilings, tasks)| CeilingRefusal::Count(ceilings, tasks))?;
+    check_count(table, ceilings).map_err(|(ceilings, tasks)| CeilingRefusal::Count(
+        ceilings, tasks,
+    ))?;
     check_sizes(ceilings).map_err(CeilingRefusal::TooLarge)
 }
 

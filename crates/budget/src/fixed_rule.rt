@@ -45,16 +45,6 @@ impl Fixed {
             budgets: slots,
         })
     }
-
-    // The task's budget, and 0 where it has no weight.
-    fn allowed(&self, task: u32) -> Ticks
-        ensures { result.0 ≡ budget_of_fixed self.now task }
-    {
-        if self.tally.weights.of(task) == Shares(0) {
-            return Ticks(0);
-        }
-        ticks_of(&self.budgets, task)
-    }
 }
 
 // Beside that for `Shared`: the bodies are the same over another budget. One impl for both would be over a trait of ways to budget,
@@ -71,11 +61,11 @@ impl Rule for Fixed {
     ghost fits = { λ x. fixed_fits (weights_of x.tally) (total_of x.tally) (longest_of x.tally) (ticks_in x.budgets) x.kept x.within };
 
     fn ask(&self, task: u32, run: Ticks) -> bool {
-        self.allowed(task) > run
+        self.budget(task) > run
     }
 
     fn grant(&mut self, task: u32, run: Ticks) -> bool {
-        let may = run < self.allowed(task);
+        let may = run < self.budget(task);
         if may {
             self.tally.raise(task, run);
         }
@@ -98,7 +88,11 @@ impl Rule for Fixed {
 impl Metered for Fixed {
     ghost allowance = { budget_of_fixed };
 
+    // The task's own budget, and 0 where it has no weight.
     fn budget(&self, task: u32) -> Ticks {
-        self.allowed(task)
+        if self.tally.weights.of(task) == Shares(0) {
+            return Ticks(0);
+        }
+        ticks_of(&self.budgets, task)
     }
 }

@@ -54,6 +54,7 @@ impl Weights {
         requires runs { (i : ℕ) → ticks_in runs.now i ≤ 100000 }
         ensures { result.0 ≡ load (weight_in self.now.by_slot) (ticks_in runs.now) }
     {
+        // by index, as every sum of a table
         let mut sum = 0;
         for k in 0..self.count {
             sum += self.by_slot[k].0 * runs[k].0;
@@ -90,6 +91,7 @@ impl Tally {
     pub(crate) fn left_by_others(&self, task: u32) -> Shares
         ensures { result.0 ≡ total_of self.now - others (weights_of self.now) (longest_of self.now) task }
     {
+        // by index, as every sum of a table: the slot tells the task and its part
         let mut left = self.weights.total.0;
         for k in 0..self.weights.count {
             left -= self.part(k, task).0;

@@ -30,9 +30,9 @@ returns c = go
     go (suc j) =
         elim (dec_le 32 j) [
           | yes l ↦
-            weight_past c.from_fn.result j (omega (arith, c.from_fn.ensures.items.long))
-            ∙ sym (rule_weight_past (draft_of c.args.table.now) j (omega (arith, (table_accepted c.args.table.now).few)))
+              weight_past c.from_fn.result j (omega (arith, c.from_fn.ensures.items.long))
+              ∙ sym (rule_weight_past (draft_of c.args.table.now) j (omega (arith, (table_accepted c.args.table.now).few)))
           | no l ↦
-            made _ (λ w. w.0) (λ k. rule_weight (draft_of c.args.table.now) (k + 1)) _ c.from_fn.result (shares 0) (λ k y q called. search rules) 32 0 c.from_fn.ensures.items.each j (omega arith) (omega arith)
-            ∙ ap (rule_weight (draft_of c.args.table.now)) (add-one j)
+              made _ (λ w. w.0) (λ k. rule_weight (draft_of c.args.table.now) (k + 1)) _ c.from_fn.result (shares 0) (λ k y q called. search rules) 32 0 c.from_fn.ensures.items.each j (omega arith) (omega arith)
+              ∙ ap (rule_weight (draft_of c.args.table.now)) (add-one j)
         ]

@@ -1,6 +1,6 @@
-use Rattle.std.proofs.Common.{◌≡◌, ℕ, ◌-◌, ◌≤◌, set, refl, arith, rules}
+use Rattle.std.proofs.Common.{◌≡◌, ℕ, ◌-◌, set, refl, arith, rules}
 use Rattle.budget.specs.Loads.{load_same}
-use Rattle.budget.specs.Meaning.{load, raised}
+use Rattle.budget.specs.Meaning.{raised}
 use Rattle.budget.specs.OfRules.{weights_of, longest_of}
 use Rattle.budget.specs.Slots.{ticks_in}
 use Rattle.budget.proofs.tally.Tally.raise.Goals as goal

@@ -5,7 +5,7 @@ use Rattle.budget.specs.OfRules.{weights_of, total_of, longest_of, meaning_of_sh
 use Rattle.budget.specs.Rules.{others}
 use Rattle.budget.specs.Budgets.{budgeted}
 use Rattle.budget.proofs.Tallies.{zeroth, above}
-use Rattle.budget.proofs.shared.Shared.spare.Goals as goal
+use Rattle.budget.proofs.shared_rule.SharedMetered.budget.Goals as goal
 
 -- the number that is the budget tells the yes set
 tied_to : (s : Shared) (i b : ℕ) → b ≡ budget_of_shared s i → (run : ℕ) → (meaning_of_shared s).yes i run ≡ ltb run b
