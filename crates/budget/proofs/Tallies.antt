@@ -22,7 +22,7 @@ known t i b e = (low i refl, high)
     never : weights_of t i ≡ 0 → ⊥
     never z =
         let no : cond (eqb (weights_of t i) 0) false b ≡ false = cond-true (eqb (weights_of t i) 0) false b (eq-eqb (weights_of t i) 0 z) in
-        let q : ◌≡◌ {A = ℕ} 0 1 = cc in omega arith
+        cc
 
     low : (j : ℕ) → i ≡ j → 1 ≤ i
     low zero p = absurd (never (zeroth t i p))

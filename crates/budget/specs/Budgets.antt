@@ -70,7 +70,7 @@ pub shared_fits : (w : ℕ → ℕ) (b : ℕ) (l : ℕ → ℕ) (i r : ℕ) → 
 shared_fits w b l i r e = by (w i == 0) e
   where
     by : (z : Bool) → cond z false (nat_le (load w (raised l i r)) b) ≡ true → load w (raised l i r) ≤ b
-    by true q = let o : ◌≡◌ {A = ℕ} 0 1 = cc in absurd (omega arith)
+    by true q = cc
     by false q = leb-true (load w (raised l i r)) b q
 
 -- a yes of the fixed rule is below the budget
@@ -78,7 +78,7 @@ pub fixed_below : (w c : ℕ → ℕ) (i r : ℕ) → fixed_says w c i r ≡ tru
 fixed_below w c i r e = by (w i == 0) e
   where
     by : (z : Bool) → cond z false (nat_lt r (c i)) ≡ true → r < c i
-    by true q = let o : ◌≡◌ {A = ℕ} 0 1 = cc in absurd (omega arith)
+    by true q = cc
     by false q = ltb-true r (c i) q
 
 -- a yes of the fixed rule fits

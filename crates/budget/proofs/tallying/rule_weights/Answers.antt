@@ -1,13 +1,13 @@
 use Rattle.std.proofs.Common.{◌≡◌, ℕ, zero, suc, ◌+◌, ◌<◌, ◌≤◌, List, get_or, sym, refl, ap, subst, ◌∙◌, add-one, arith, rules}
 use Rattle.std.specs.Array.{IsFromFnResultFrom}
 use Rattle.std.specs.Fn.{Called, Mut}
+use Rattle.std.proofs.lemmas.List.{get_or_past}
 use native.Mathlib.Decide.{dec_le, ℕ_discrete}
 use Rattle.table.specs.Tables.{draft_of}
 use Rattle.table.specs.Tasks.{shares}
 use Rattle.table.proofs.Tables.{table_accepted}
 use Rattle.budget.specs.Slots.{weight_in}
 use Rattle.budget.specs.Weights.{rule_weight}
-use Rattle.budget.proofs.Slots.{weight_past}
 use Rattle.budget.proofs.Weighing.{rule_weight_past}
 use Rattle.budget.proofs.tallying.rule_weights.Goals as goal
 
@@ -30,7 +30,7 @@ returns c = go
     go (suc j) =
         elim (dec_le 32 j) [
           | yes l ↦
-              weight_past c.from_fn.result j (omega (arith, c.from_fn.ensures.items.long))
+              ap (λ w. w.0) (get_or_past c.from_fn.result j (shares 0) (omega (arith, c.from_fn.ensures.items.long)))
               ∙ sym (rule_weight_past (draft_of c.args.table.now) j (omega (arith, (table_accepted c.args.table.now).few)))
           | no l ↦
               made _ (λ w. w.0) (λ k. rule_weight (draft_of c.args.table.now) (k + 1)) _ c.from_fn.result (shares 0) (λ k y q called. search rules) 32 0 c.from_fn.ensures.items.each j (omega arith) (omega arith)
