@@ -1,2 +1,2 @@
 pub mod Any
-pub mod Laws
+pub mod Either

@@ -1,4 +1,5 @@
 pub mod Slots
+pub mod Searches
 pub mod Weighing
 pub mod Tallies
 pub mod Making

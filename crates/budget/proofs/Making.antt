@@ -18,7 +18,7 @@ use Rattle.budget.proofs.Slots.{ticks_past}
 
 pub mapped_none : {A B : Type 0} (f : A → B) (x : Option A) → mapped f x ≡ None → x ≡ None
 mapped_none f None e = refl
-mapped_none f (Some a) e = let z : ◌≡◌ {A = ℕ} 0 1 = cc in absurd (omega arith)
+mapped_none f (Some a) e = cc
 
 -- a list without a number above 100,000
 pub all_small : (cs : List Ticks) → too_large cs ≡ None → (i : ℕ) → ticks_in cs i ≤ 100000

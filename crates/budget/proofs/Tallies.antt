@@ -1,9 +1,9 @@
 -- A tally has no weight outside 1 to 32.
-use Rattle.std.proofs.Common.{◌≡◌, ℕ, zero, suc, ◌<◌, ◌≤◌, Bool, true, false, cond, eqb, List, refl, ap, ◌∙◌, arith}
+use Rattle.std.proofs.Common.{◌≡◌, ℕ, zero, suc, ◌<◌, ◌≤◌, Bool, true, false, cond, eqb, refl, ap, arith}
 use native.Mathlib.Decide.{dec_le}
 use Rattle.std.proofs.lemmas.Bool.{eq-eqb, cond-true}
-use Rattle.tasks.specs.declared.units.Shares.{Shares}
 use Rattle.budget.specs.declared.tally.Tally.{Tally}
+use Rattle.budget.specs.declared.tally.Weights.{Weights}
 use Rattle.budget.specs.OfRules.{weights_of}
 use Rattle.budget.specs.Rules.{shared_says}
 use Rattle.budget.specs.Slots.{weight_in}
@@ -13,7 +13,7 @@ zeroth t i e = rw e
 
 pub above : (t : Tally) (i : ℕ) → 32 < i → weights_of t i ≡ 0
 above t zero h = refl
-above t (suc k) h = t.absent k (omega (arith, t.few, h))
+above t (suc k) h = t.weights.absent k (omega (arith, t.weights.few, h))
 
 -- a task that is told yes has a weight, and so a number from 1 to 32
 pub known : (t : Tally) (i : ℕ) (b : Bool) → cond (eqb (weights_of t i) 0) false b ≡ true → (1 ≤ i) × (i ≤ 32)
@@ -22,7 +22,7 @@ known t i b e = (low i refl, high)
     never : weights_of t i ≡ 0 → ⊥
     never z =
         let no : cond (eqb (weights_of t i) 0) false b ≡ false = cond-true (eqb (weights_of t i) 0) false b (eq-eqb (weights_of t i) 0 z) in
-        let q : ◌≡◌ {A = ℕ} 0 1 = cc in omega arith
+        cc
 
     low : (j : ℕ) → i ≡ j → 1 ≤ i
     low zero p = absurd (never (zeroth t i p))
@@ -31,9 +31,9 @@ known t i b e = (low i refl, high)
     high : i ≤ 32
     high = elim (dec_le i 32) [ yes h ↦ h | no h ↦ absurd (never (above t i (omega arith))) ]
 
--- the shared yes set at given longest runs is that of the weights and the total
-abbrev pub shared_by : List Shares → Shares → (ℕ → ℕ) → ℕ → ℕ → Bool
-shared_by ws b longest = shared_says (weight_in ws) b.0 longest
+-- the shared yes set at given longest runs is that of the weights
+abbrev pub shared_by : Weights → (ℕ → ℕ) → ℕ → ℕ → Bool
+shared_by ws longest = shared_says (weight_in ws.by_slot) ws.total.0 longest
 
-pub shared_kept : (t u : Tally) → u.weights ≡ t.weights → u.total ≡ t.total → shared_by u.weights u.total ≡ shared_by t.weights t.total
-shared_kept t u e f = ap (λ ws. shared_by ws u.total) e ∙ ap (shared_by t.weights) f
+pub shared_kept : (t u : Tally) → u.weights ≡ t.weights → shared_by u.weights ≡ shared_by t.weights
+shared_kept t u e = ap shared_by e

@@ -6,7 +6,7 @@ use Rattle.std.proofs.Math.Nat.{max-eq_left, max-eq_right, le-max_right}
 use Rattle.std.proofs.lemmas.Bool.{leb-true, ltb-true, eq-eqb, ne_eqb, le-leb, lt-leb, lt-ltb, le-ltb, cond-true, cond-false}
 use Rattle.budget.specs.Meaning.{load, raised, SharedYes}
 use Rattle.budget.specs.Rules.{shared_says, shared_meaning, shared_budget, fixed_says, others}
-use Rattle.budget.specs.Loads.{load_kept, load_raised}
+use Rattle.budget.specs.Loads.{load_kept, load_raised, load_below, raised_within}
 
 -- beside others o of a total b, the task with weight w and longest run l may run to (b - o) / w
 top : (w l b o r : ℕ) → o + w * l ≤ b → r < (b - o) / w → o + w * max l (r + 1) ≤ b
@@ -70,7 +70,7 @@ pub shared_fits : (w : ℕ → ℕ) (b : ℕ) (l : ℕ → ℕ) (i r : ℕ) → 
 shared_fits w b l i r e = by (w i == 0) e
   where
     by : (z : Bool) → cond z false (nat_le (load w (raised l i r)) b) ≡ true → load w (raised l i r) ≤ b
-    by true q = let o : ◌≡◌ {A = ℕ} 0 1 = cc in absurd (omega arith)
+    by true q = cc
     by false q = leb-true (load w (raised l i r)) b q
 
 -- a yes of the fixed rule is below the budget
@@ -78,8 +78,12 @@ pub fixed_below : (w c : ℕ → ℕ) (i r : ℕ) → fixed_says w c i r ≡ tru
 fixed_below w c i r e = by (w i == 0) e
   where
     by : (z : Bool) → cond z false (nat_lt r (c i)) ≡ true → r < c i
-    by true q = let o : ◌≡◌ {A = ℕ} 0 1 = cc in absurd (omega arith)
+    by true q = cc
     by false q = ltb-true r (c i) q
+
+-- a yes of the fixed rule fits
+pub fixed_fits : (w : ℕ → ℕ) (b : ℕ) (l c : ℕ → ℕ) → ((i : ℕ) → l i ≤ c i) → load w c ≤ b → (i r : ℕ) → fixed_says w c i r ≡ true → load w (raised l i r) ≤ b
+fixed_fits w b l c kept fit i r e = omega (arith, load_below w (raised l i r) c (raised_within l c i r kept (fixed_below w c i r e)))
 
 -- the shared rule says yes exactly where the task has a weight and the raised load fits
 pub shared_exact : (w : ℕ → ℕ) (b : ℕ) (l : ℕ → ℕ) → SharedYes (shared_meaning w b l)

@@ -1,6 +1,7 @@
 pub mod Meaning
 pub mod Weights
 pub mod Slots
+pub mod Searches
 pub mod Rules
 pub mod OfRules
 pub mod Refusals

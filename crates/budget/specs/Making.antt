@@ -36,6 +36,10 @@ low_budget d cs = first_below (length cs) (λ k. unless (may_have (d.task k).cri
 abbrev pub too_large : List Ticks → Option Excess
 too_large cs = first_below (length cs) (λ k. unless (nat_le (at_slot cs k).ticks.0 100000) (at_slot cs k))
 
+-- how many numbers and tasks there are, where that is not one for each
+abbrev pub counts : Draft → List Ticks → Option (ℕ × ℕ)
+counts d cs = unless (length cs == d.count) (length cs, d.count)
+
 -- 15: not one number for each task
 abbrev pub budgets_fault : Draft → List Ticks → Option FixedRefusal
 budgets_fault d cs = unless (length cs == d.count) (Count (length cs) d.count)

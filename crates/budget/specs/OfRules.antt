@@ -11,23 +11,26 @@ use Rattle.budget.specs.Slots.{weight_in, ticks_in}
 use Rattle.budget.specs.Weights.{rule_weight}
 
 abbrev pub weights_of : Tally → ℕ → ℕ
-weights_of t = weight_in t.weights
+weights_of t = weight_in t.weights.by_slot
+
+abbrev pub total_of : Tally → ℕ
+total_of t = t.weights.total.0
 
 abbrev pub longest_of : Tally → ℕ → ℕ
 longest_of t = ticks_in t.longest
 
 abbrev pub meaning_of_shared : Shared → Meaning
-meaning_of_shared s = shared_meaning (weights_of s.tally) s.tally.total.0 (longest_of s.tally)
+meaning_of_shared s = shared_meaning (weights_of s.tally) (total_of s.tally) (longest_of s.tally)
 
 -- the yes set at given longest runs: at the rule's own it is that of its meaning
 abbrev pub policy_of_shared : Shared → (ℕ → ℕ) → ℕ → ℕ → Bool
-policy_of_shared s longest = shared_says (weights_of s.tally) s.tally.total.0 longest
+policy_of_shared s longest = shared_says (weights_of s.tally) (total_of s.tally) longest
 
 abbrev pub budget_of_shared : Shared → ℕ → ℕ
-budget_of_shared s = shared_budget (weights_of s.tally) s.tally.total.0 (longest_of s.tally)
+budget_of_shared s = shared_budget (weights_of s.tally) (total_of s.tally) (longest_of s.tally)
 
 abbrev pub meaning_of_fixed : Fixed → Meaning
-meaning_of_fixed f = fixed_meaning (weights_of f.tally) f.tally.total.0 (longest_of f.tally) (ticks_in f.budgets)
+meaning_of_fixed f = fixed_meaning (weights_of f.tally) (total_of f.tally) (longest_of f.tally) (ticks_in f.budgets)
 
 -- a fixed rule's yes set does not depend on the longest runs
 abbrev pub policy_of_fixed : Fixed → (ℕ → ℕ) → ℕ → ℕ → Bool

@@ -7,7 +7,7 @@ ghost use Rattle.budget.specs.Rules.{under_ceiling, policy_under};
 ghost use Rattle.budget.specs.Slots.{ticks_in};
 ghost use Rattle.std.proofs.Common.{rules};
 
-use super::lists::{first_large, slots_of, ticks_of};
+use super::lists::{check_count, check_sizes, slots_of, ticks_of};
 use super::refusal::CeilingRefusal;
 use super::rule::{Metered, Rule};
 use table::table::Table;
@@ -30,14 +30,10 @@ pub struct CeilingRefused<R> {
 fn check_ceilings(table: &Table, ceilings: &[Ticks]) -> Result<(), CeilingRefusal>
     ensures { refusal result ≡ ceiling_fault (draft_of table.now) ceilings.now }
 {
-    let tasks = table.count() as usize;
-    if ceilings.len() != tasks {
-        return Err(CeilingRefusal::Count(ceilings.len(), tasks));
-    }
-    match first_large(ceilings) {
-        Some(excess) => Err(CeilingRefusal::TooLarge(excess)),
-        None => Ok(()),
-    }
+    check_count(table, ceilings).map_err(|(ceilings, tasks)| CeilingRefusal::Count(
+        ceilings, tasks,
+    ))?;
+    check_sizes(ceilings).map_err(CeilingRefusal::TooLarge)
 }
 
 impl<R> Ceiling<R> {
@@ -45,6 +41,7 @@ impl<R> Ceiling<R> {
     pub fn new(table: &Table, rule: R, ceilings: &[Ticks]) -> Result<Ceiling<R>, CeilingRefused<R>>
         ensures { elim result [ Ok c ↦ (ceiling_fault (draft_of table.now) ceilings.now ≡ None) × (c.rule ≡ rule) × ((i : ℕ) → ticks_in c.ceilings i ≡ ticks_in ceilings.now i) | Err e ↦ (ceiling_fault (draft_of table.now) ceilings.now ≡ Some e.refusal) × (e.rule ≡ rule) ] }
     {
+        // not by `map_err`: the rule goes into either case, and need be no copy
         match check_ceilings(table, ceilings) {
             Ok(()) => Ok(Ceiling {
                 rule,
@@ -67,11 +64,11 @@ impl<R: Rule> Rule for Ceiling<R> {
     ghost fits = { Prim.search rules };
 
     fn ask(&self, task: u32, run: Ticks) -> bool {
-        self.rule.ask(task, run) && run.0 < ticks_of(&self.ceilings, task).0
+        self.rule.ask(task, run) && run < ticks_of(&self.ceilings, task)
     }
 
     fn grant(&mut self, task: u32, run: Ticks) -> bool {
-        run.0 < ticks_of(&self.ceilings, task).0 && self.rule.grant(task, run)
+        run < ticks_of(&self.ceilings, task) && self.rule.grant(task, run)
     }
 
     fn rest(&mut self) {
@@ -91,7 +88,6 @@ impl<R: Metered> Metered for Ceiling<R> {
     ghost allowance = { λ c i. min (R.Metered.allowance c.rule i) (ticks_in c.ceilings i) };
 
     fn budget(&self, task: u32) -> Ticks {
-        let below = self.rule.budget(task);
-        Ticks(below.0.min(ticks_of(&self.ceilings, task).0))
+        self.rule.budget(task).min(ticks_of(&self.ceilings, task))
     }
 }

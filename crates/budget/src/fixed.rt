@@ -11,5 +11,5 @@ pub struct Fixed {
     pub(crate) tally: Tally,
     pub(crate) budgets: [Ticks; 32],
     ghost kept: { (i : ℕ) → ticks_in tally.longest i ≤ ticks_in budgets i },
-    ghost within: { load (weight_in tally.weights) (ticks_in budgets) ≤ tally.total.0 },
+    ghost within: { load (weight_in tally.weights.by_slot) (ticks_in budgets) ≤ tally.weights.total.0 },
 }

@@ -3,16 +3,15 @@ ghost use Rattle.table.specs.Firsts.{first_of, refusal};
 ghost use Rattle.table.specs.Tables.{draft_of};
 ghost use Rattle.budget.specs.Making.{budgets_fault, low_budget, too_large, mapped, over_total_fault, fixed_fault};
 ghost use Rattle.budget.specs.Meaning.{Meaning, load, raised};
-ghost use Rattle.budget.specs.OfRules.{weights_of, longest_of, meaning_of_fixed, policy_of_fixed, budget_of_fixed, FixedOf};
+ghost use Rattle.budget.specs.OfRules.{weights_of, total_of, longest_of, meaning_of_fixed, policy_of_fixed, budget_of_fixed, FixedOf};
 ghost use Rattle.budget.specs.Slots.{ticks_in};
 ghost use Rattle.budget.specs.Weights.{rule_weight};
 ghost use Rattle.budget.specs.declared.refusal.FixedRefusal.TheVariants.{LowTask, TooLarge};
-ghost use Rattle.std.proofs.Common.{arith, rules};
-ghost use Rattle.budget.specs.Budgets.{fixed_below};
-ghost use Rattle.budget.specs.Loads.{load_below, raised_within};
+ghost use Rattle.std.proofs.Common.{rules};
+ghost use Rattle.budget.specs.Budgets.{fixed_fits};
 
 use super::fixed::Fixed;
-use super::lists::{first_large, first_low_budget, slots_of, ticks_of};
+use super::lists::{check_count, check_levels, check_sizes, slots_of, ticks_of};
 use super::refusal::FixedRefusal;
 use super::rule::{Metered, Rule};
 use super::tally::Tally;
@@ -23,17 +22,9 @@ use tasks::units::{Shares, Ticks};
 fn check_budgets(table: &Table, budgets: &[Ticks]) -> Result<(), FixedRefusal>
     ensures { refusal result ≡ first_of (budgets_fault (draft_of table.now) budgets.now ∷ mapped LowTask (low_budget (draft_of table.now) budgets.now) ∷ mapped TooLarge (too_large budgets.now) ∷ []) }
 {
-    let tasks = table.count() as usize;
-    if budgets.len() != tasks {
-        return Err(FixedRefusal::Count(budgets.len(), tasks));
-    }
-    if let Some(excess) = first_low_budget(table, budgets) {
-        return Err(FixedRefusal::LowTask(excess));
-    }
-    if let Some(excess) = first_large(budgets) {
-        return Err(FixedRefusal::TooLarge(excess));
-    }
-    Ok(())
+    check_count(table, budgets).map_err(|(budgets, tasks)| FixedRefusal::Count(budgets, tasks))?;
+    check_levels(table, budgets).map_err(FixedRefusal::LowTask)?;
+    check_sizes(budgets).map_err(FixedRefusal::TooLarge)
 }
 
 impl Fixed {
@@ -45,27 +36,19 @@ impl Fixed {
         check_budgets(table, budgets)?;
         let tally = Tally::new(table);
         let slots = slots_of(budgets);
-        let sum = tally.load_of(&slots);
-        if sum.0 > tally.total.0 {
-            return Err(FixedRefusal::OverTotal(sum, tally.total));
+        let sum = tally.weights.load_of(&slots);
+        if sum > tally.weights.total {
+            return Err(FixedRefusal::OverTotal(sum, tally.weights.total));
         }
         Ok(Fixed {
             tally,
             budgets: slots,
         })
     }
-
-    // The task's budget, and 0 where it has no weight.
-    fn allowed(&self, task: u32) -> Ticks
-        ensures { result.0 ≡ budget_of_fixed self.now task }
-    {
-        if self.tally.weight(task).0 == 0 {
-            return Ticks(0);
-        }
-        ticks_of(&self.budgets, task)
-    }
 }
 
+// Beside that for `Shared`: the bodies are the same over another budget. One impl for both would be over a trait of ways to budget,
+// with laws for what a raise and a rest leave true, and longer than these five.
 impl Rule for Fixed {
     ghost meaning = { meaning_of_fixed };
 
@@ -75,18 +58,14 @@ impl Rule for Fixed {
 
     ghost silent = { Prim.search rules };
 
-    ghost fits = { λ x i run e.
-        let w = weights_of x.tally in
-        let l = longest_of x.tally in
-        let c = ticks_in x.budgets in
-        omega (arith, load_below w (raised l i run) c (raised_within l c i run x.kept (fixed_below w c i run e)), x.within) };
+    ghost fits = { λ x. fixed_fits (weights_of x.tally) (total_of x.tally) (longest_of x.tally) (ticks_in x.budgets) x.kept x.within };
 
     fn ask(&self, task: u32, run: Ticks) -> bool {
-        self.allowed(task).0 > run.0
+        self.budget(task) > run
     }
 
     fn grant(&mut self, task: u32, run: Ticks) -> bool {
-        let may = run.0 < self.allowed(task).0;
+        let may = run < self.budget(task);
         if may {
             self.tally.raise(task, run);
         }
@@ -98,18 +77,22 @@ impl Rule for Fixed {
     }
 
     fn weight(&self, task: u32) -> Shares {
-        self.tally.weight(task)
+        self.tally.weights.of(task)
     }
 
     fn total(&self) -> Shares {
-        self.tally.total
+        self.tally.weights.total
     }
 }
 
 impl Metered for Fixed {
     ghost allowance = { budget_of_fixed };
 
+    // The task's own budget, and 0 where it has no weight.
     fn budget(&self, task: u32) -> Ticks {
-        self.allowed(task)
+        if self.tally.weights.of(task) == Shares(0) {
+            return Ticks(0);
+        }
+        ticks_of(&self.budgets, task)
     }
 }

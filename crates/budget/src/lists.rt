@@ -1,55 +1,70 @@
-ghost use Rattle.std.specs.Prelude.{◌≡◌, ℕ, ◌<◌, ◌≤◌, length};
+ghost use Rattle.std.specs.Prelude.{◌≡◌, ℕ, ◌+◌, ◌<◌, ◌≤◌, length};
+ghost use Rattle.table.specs.Firsts.{refusal};
 ghost use Rattle.table.specs.Tables.{draft_of};
-ghost use Rattle.budget.specs.Making.{low_budget, may_have, too_large};
+ghost use Rattle.budget.specs.Searches.{Searched};
+ghost use Rattle.budget.specs.Making.{at_slot, counts, may_have, too_large, low_budget};
 ghost use Rattle.budget.specs.Slots.{ticks_in};
 
 use super::refusal::Excess;
 use table::table::Table;
+use tasks::slots::{at_number, filled};
 use tasks::task::Level;
 use tasks::units::Ticks;
 
-// The first number above 100,000.
-pub(crate) fn first_large(list: &[Ticks]) -> Option<Excess>
+// The largest number that a list may have.
+const LARGEST: Ticks = Ticks(100_000);
+
+// One number for each task, or how many there are of both.
+pub(crate) fn check_count(table: &Table, list: &[Ticks]) -> Result<(), (usize, usize)>
+    ensures { refusal result ≡ counts (draft_of table.now) list.now }
+{
+    let tasks = table.count() as usize;
+    if list.len() == tasks {
+        Ok(())
+    } else {
+        Err((list.len(), tasks))
+    }
+}
+
+// The first number that does not pass.
+fn check_each<F: Fn(Excess) -> bool>(list: &[Ticks], passes: F) -> Result<(), Excess>
+    requires few { length list.now ≤ 32 }
+    requires callable { F.IsAlwaysCallable passes }
+    ensures { Searched (λ k. F.post passes (at_slot list.now k)) (length list.now) (at_slot list.now) result }
+{
+    for (slot, ticks) in list.iter().enumerate() {
+        let number = Excess {
+            task: slot as u32 + 1,
+            ticks: *ticks,
+        };
+        if !passes(number) {
+            return Err(number);
+        }
+    }
+    Ok(())
+}
+
+// No number is above 100,000.
+pub(crate) fn check_sizes(list: &[Ticks]) -> Result<(), Excess>
     requires { length list.now ≤ 32 }
-    ensures { result ≡ too_large list.now }
+    ensures { refusal result ≡ too_large list.now }
 {
-    for i in 0..list.len() {
-        if list[i].0 > 100_000 {
-            return Some(Excess {
-                task: i as u32 + 1,
-                ticks: list[i],
-            });
-        }
-    }
-    None
+    check_each(list, |number| number.ticks <= LARGEST)
 }
 
-// Whether the task at a slot may have this budget.
-fn may_have(table: &Table, slot: u32, budget: Ticks) -> bool
-    requires { slot < 32 }
-    ensures { slot < (draft_of table.now).count → result ≡ may_have ((draft_of table.now).task slot).criticality budget.0 }
+// Whether the task may have this budget.
+fn may_have(table: &Table, budget: Excess) -> bool
+    ensures { (k : ℕ) → budget.task ≡ k + 1 → k < (draft_of table.now).count → result ≡ may_have ((draft_of table.now).task k).criticality budget.ticks.0 }
 {
-    match table.level(slot + 1) {
-        Some(Level::Low) => budget.0 == 0,
-        _ => true,
-    }
+    table.level(budget.task) != Some(Level::Low) || budget.ticks == Ticks(0)
 }
 
-// The first budget that is not 0 at a low task.
-pub(crate) fn first_low_budget(table: &Table, budgets: &[Ticks]) -> Option<Excess>
+// No low task has a budget but 0.
+pub(crate) fn check_levels(table: &Table, budgets: &[Ticks]) -> Result<(), Excess>
     requires { (length budgets.now ≡ (draft_of table.now).count) × (length budgets.now ≤ 32) }
-    ensures { result ≡ low_budget (draft_of table.now) budgets.now }
+    ensures { refusal result ≡ low_budget (draft_of table.now) budgets.now }
 {
-    for i in 0..budgets.len() {
-        let slot = i as u32;
-        if !may_have(table, slot, budgets[i]) {
-            return Some(Excess {
-                task: slot + 1,
-                ticks: budgets[i],
-            });
-        }
-    }
-    None
+    check_each(budgets, |budget| may_have(table, budget))
 }
 
 // The numbers by slot, and 0 behind them.
@@ -57,19 +72,12 @@ pub(crate) fn slots_of(list: &[Ticks]) -> [Ticks; 32]
     requires { length list.now ≤ 32 }
     ensures { (i : ℕ) → ticks_in result i ≡ ticks_in list.now i }
 {
-    let mut slots = [Ticks(0); 32];
-    for i in 0..list.len() {
-        slots[i] = list[i];
-    }
-    slots
+    filled(list, Ticks(0))
 }
 
 // The number of a task, and 0 of an absent one.
 pub(crate) fn ticks_of(slots: &[Ticks; 32], task: u32) -> Ticks
     ensures { result.0 ≡ ticks_in slots.now task }
 {
-    if task == 0 || task > 32 {
-        return Ticks(0);
-    }
-    slots[task as usize - 1]
+    at_number(slots, task).unwrap_or(Ticks(0))
 }

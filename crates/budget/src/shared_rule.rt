@@ -19,18 +19,6 @@ impl Shared {
             tally: Tally::new(table),
         }
     }
-
-    // What the other tasks leave of the total, over the task's weight.
-    fn spare(&self, task: u32) -> Ticks
-        ensures is { result.0 ≡ budget_of_shared self.now task }
-        ensures tied { (run : ℕ) → (meaning_of_shared self.now).yes task run ≡ nat_lt run result.0 }
-    {
-        let Shares(weight) = self.tally.weight(task);
-        if weight == 0 {
-            return Ticks(0);
-        }
-        Ticks(self.tally.left_by_others(task).0 / weight)
-    }
 }
 
 impl Rule for Shared {
@@ -45,11 +33,11 @@ impl Rule for Shared {
     ghost fits = { Prim.search rules };
 
     fn ask(&self, task: u32, run: Ticks) -> bool {
-        self.spare(task).0 > run.0
+        self.budget(task) > run
     }
 
     fn grant(&mut self, task: u32, run: Ticks) -> bool {
-        let may = run.0 < self.spare(task).0;
+        let may = run < self.budget(task);
         if may {
             self.tally.raise(task, run);
         }
@@ -61,18 +49,23 @@ impl Rule for Shared {
     }
 
     fn weight(&self, task: u32) -> Shares {
-        self.tally.weight(task)
+        self.tally.weights.of(task)
     }
 
     fn total(&self) -> Shares {
-        self.tally.total
+        self.tally.weights.total
     }
 }
 
 impl Metered for Shared {
     ghost allowance = { budget_of_shared };
 
+    // What the other tasks leave of the total, over the task's weight.
     fn budget(&self, task: u32) -> Ticks {
-        self.spare(task)
+        let Shares(weight) = self.tally.weights.of(task);
+        if weight == 0 {
+            return Ticks(0);
+        }
+        Ticks(self.tally.left_by_others(task).0 / weight)
     }
 }

@@ -1,9 +1,10 @@
 -- What the dispatcher's calls do to the run that it stands for.
-use Rattle.std.proofs.Common.{◌≡◌, ℕ, Bool, true, false, cond, Some, None, Option, sym, refl, ap, ◌∙◌, subst}
+use Rattle.std.proofs.Common.{◌≡◌, ℕ, Bool, true, false, cond, ◌&&◌, nat_lt, Some, None, Option, sym, refl, ap, ◌∙◌, subst}
 use mathlib.Core.Path.{fun_ext}
 use Rattle.table.specs.Verdict.{Draft}
 use Rattle.order.specs.Orders.{Ahead}
 use Rattle.budget.specs.Meaning.{Meaning, Granted, Rested, raised}
+use Rattle.budget.specs.Slots.{ticks_in}
 use Rattle.budget.specs.Weights.{rule_weight}
 use Rattle.runs.specs.declared.call.Mark.{Mark}
 use Rattle.runs.specs.declared.refusal.TickRefusal.{TickRefusal}
@@ -11,9 +12,8 @@ use Rattle.runs.specs.Choices.{Turn}
 use Rattle.runs.specs.Programs.{asked_meaning, rested_meaning, meaning_by, meaning_after}
 use Rattle.runs.specs.States.{State, Judged, OfTable}
 use Rattle.runs.specs.Ticking.{Asked, LetRest, Consulted, RuleAfter, rule_after_by, tick_fault, asked, outcome}
-use Rattle.any_rule.specs.declared.AnyRule.{AnyRule}
-use Rattle.any_rule.specs.declared.AnyRule.TheVariants.{OfShared, OfFixed, SharedUnder, FixedUnder}
-use Rattle.any_rule.specs.Any.{meaning_of_any, policy_of_any}
+use Rattle.any_rule.specs.declared.OneOf.TheVariants.{First, Second}
+use Rattle.any_rule.specs.Any.{Base, Any, meaning_of_base, policy_of_base, meaning_of_any, policy_of_any}
 use Rattle.transcript.specs.Policies.{Policy, at_longest, by_policy, at_rest}
 use Rattle.transcript.specs.Shows.{Show}
 
@@ -33,11 +33,13 @@ meaning_is m n ew et el ey =
     ∙ ap (λ x. record { weight = n.weight; total = n.total; longest = n.longest; yes = x }) ey
 
 -- a rule says what its policy says at its longest runs
-pub told : (r : AnyRule) → (meaning_of_any r).yes ≡ policy_of_any r (meaning_of_any r).longest
-told (OfShared s) = refl
-told (OfFixed f) = refl
-told (SharedUnder c) = refl
-told (FixedUnder c) = refl
+told_base : (r : Base) → (meaning_of_base r).yes ≡ policy_of_base r (meaning_of_base r).longest
+told_base (First s) = refl
+told_base (Second f) = refl
+
+pub told : (r : Any) → (meaning_of_any r).yes ≡ policy_of_any r (meaning_of_any r).longest
+told (First b) = told_base b
+told (Second c) = ap (λ yes i run. yes i run && nat_lt run (ticks_in c.ceilings i)) (told_base c.rule)
 
 pub not_foreign : (b : Bool) (d : Draft) (m : Meaning) → Judged b d m → OfTable d m → b ≡ false
 not_foreign true d m j of = absurd (j of)

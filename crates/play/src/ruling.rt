@@ -26,7 +26,7 @@ impl Ruled {
     {
         Ruled {
             table,
-            rule: BaseRule::OfShared(Shared::new(&table)),
+            rule: BaseRule::from(Shared::new(&table)),
         }
     }
 
@@ -38,7 +38,7 @@ impl Ruled {
         let rule = Fixed::new(&table, budgets)?;
         Ok(Ruled {
             table,
-            rule: BaseRule::OfFixed(rule),
+            rule: BaseRule::from(rule),
         })
     }
 

@@ -36,7 +36,7 @@ silent_by w l t e = ap (λ b. cond b false (leb l t)) (eq-eqb w 0 e)
 
 above : (r : Shared) (i : ℕ) → 32 < i → (meaning_of_shared r).weight i ≡ 0
 above r zero h = absurd (omega arith)
-above r (suc k) h = r.tally.absent k (omega (arith, r.tally.few))
+above r (suc k) h = r.tally.weights.absent k (omega (arith, r.tally.weights.few))
 
 pub shared_keeps : (r : Shared) → Keeps exact (meaning_of_shared r)
 shared_keeps r = record {

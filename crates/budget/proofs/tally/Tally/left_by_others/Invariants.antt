@@ -5,4 +5,4 @@ use Rattle.budget.specs.Loads.{part}
 use Rattle.budget.proofs.tally.Tally.left_by_others.Given as goal
 
 abbrev pub invariant-loop-k : goal.invariant-loop-k
-invariant-loop-k l = l.left + sum l.k (part (weights_of l.self) (longest_of l.self) l.task) ≡ l.self.total.0
+invariant-loop-k l = l.left + sum l.k (part (weights_of l.self) (longest_of l.self) l.task) ≡ l.self.weights.total.0
