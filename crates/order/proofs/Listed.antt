@@ -4,7 +4,9 @@ use Rattle.std.specs.List.{filter, list_any, range_with_len}
 use native.Mathlib.Decide.{dec_le, ℕ_discrete}
 use Rattle.std.proofs.lemmas.Bool.{eq-eqb, ne_eqb}
 use Rattle.std.proofs.lemmas.Bool.Decides.{nat_tests}
+use Rattle.order.specs.declared.slots.Slots.{Slots}
 use Rattle.order.specs.Bits.{bit, lowest, slots_of}
+use Rattle.order.specs.Slots.{slots_left}
 use Rattle.order.proofs.Bits.{bit_none, bit_above, bits_none, lowest_set, lowest_none}
 
 -- whether a slot is in a list
@@ -29,6 +31,10 @@ has_slot m k h = has_range (bit m) 0 32 k ∙ within
   where
     within : (leb 0 k && ltb k 32 && bit m k) ≡ bit m k
     within = elim (dec_le 32 k) [ yes l ↦ rw (bit_above 32 m k h l) (grind (arith, nat_tests)) | no l ↦ grind (arith, nat_tests) ]
+
+-- so are those that an iterator has left at first
+pub has_first : (s t : Slots) (m k : ℕ) → m < 2 ^ 32 → s ≡ t → slots_left t ≡ slots_of m → has k (slots_left s) ≡ bit m k
+has_first s t m k h e is = ap (λ x. has k (slots_left x)) e ∙ ap (has k) is ∙ has_slot m k h
 
 head_range : (p : ℕ → Bool) (a n x : ℕ) (xs : List ℕ) → filter p (range_with_len a n) ≡ x ∷ xs → x < a + n
 head_range p a zero x xs e = let z : ◌≡◌ {A = ℕ} 0 1 = cc in absurd (omega arith)
