@@ -68,24 +68,23 @@ module _ (ahead : Ahead) (at : ℕ → Candidate) (mask : ℕ) where
       told : t ≡ ahead (at k) (at best)
       told = goes ∙ ap (λ y. ahead y leader) is ∙ ap (ahead (at k)) l.leads
 
-module _ (ahead : Ahead) (at : ℕ → Candidate) where
-  module _ (laws : TieLaws ahead) (mask : ℕ) (word : mask < 2 ^ 32) where
-    few : (k : ℕ) → below 32 (bit mask) k ≡ bit mask k
-    few k = elim (dec_le 32 k) [ yes h ↦ rw (bit_above 32 mask k word h, le-ltb k 32 h) | no h ↦ rw (lt-ltb k 32 (omega arith)) ]
+module _ (ahead : Ahead) (at : ℕ → Candidate) (laws : TieLaws ahead) (mask : ℕ) (word : mask < 2 ^ 32) where
+  few : (k : ℕ) → below 32 (bit mask) k ≡ bit mask k
+  few k = elim (dec_le 32 k) [ yes h ↦ rw (bit_above 32 mask k word h, le-ltb k 32 h) | no h ↦ rw (lt-ltb k 32 (omega arith)) ]
 
-    from : (r : Option ℕ) → r ≡ first_choice ahead at (bit mask) → is_some r ≡ not (eqb mask 0) → Numbered at (bit mask) → ChosenFrom ahead at mask r
-    from r is some numbered =
-        let all : Numbered at (below 32 (bit mask)) = λ k o. numbered k (sym (few k) ∙ o) in
-        let chosen : Chosen ahead at (bit mask) r = rw is (chosen_same ahead at (below 32 (bit mask)) (bit mask) _ (λ k. sym (few k)) (choice_chosen ahead at laws (bit mask) 32 32 (omega arith) all)) in
-        record { chosen = chosen; only = λ s g. chosen_once ahead at laws (bit mask) numbered s r g chosen; some = some; computed = is }
+  from : (r : Option ℕ) → r ≡ first_choice ahead at (bit mask) → is_some r ≡ not (eqb mask 0) → Numbered at (bit mask) → ChosenFrom ahead at mask r
+  from r is some numbered =
+      let all : Numbered at (below 32 (bit mask)) = λ k o. numbered k (sym (few k) ∙ o) in
+      let chosen : Chosen ahead at (bit mask) r = rw is (chosen_same ahead at (below 32 (bit mask)) (bit mask) _ (λ k. sym (few k)) (choice_chosen ahead at laws (bit mask) 32 32 (omega arith) all)) in
+      record { chosen = chosen; only = λ s g. chosen_once ahead at laws (bit mask) numbered s r g chosen; some = some; computed = is }
 
-    -- there is no slot
-    pub none_offered : slots_of mask ≡ [] → ChosenFrom ahead at mask None
-    none_offered e =
-        let none : (k : ℕ) → bit mask k ≡ false = λ k. sym (has_slot mask k word) ∙ ap (has k) e in
-        from None (sym (ap (pick ahead at None) e) ∙ pick_all ahead at mask) (rw (no_slots mask word e)) (λ k o. let f = none k in let z : ◌≡◌ {A = ℕ} 0 1 = cc in absurd (omega arith))
+  -- there is no slot
+  pub none_offered : slots_of mask ≡ [] → ChosenFrom ahead at mask None
+  none_offered e =
+      let none : (k : ℕ) → bit mask k ≡ false = λ k. sym (has_slot mask k word) ∙ ap (has k) e in
+      from None (sym (ap (pick ahead at None) e) ∙ pick_all ahead at mask) (rw (no_slots mask word e)) (λ k o. let f = none k in let z : ◌≡◌ {A = ℕ} 0 1 = cc in absurd (omega arith))
 
-    -- nothing is left
-    pub looked_all : (best k : ℕ) (xs left : List ℕ) (leader : Candidate) → slots_of mask ≡ k ∷ xs → left ≡ [] → Looked ahead at mask left best leader → ChosenFrom ahead at mask (Some best)
-    looked_all best k xs left leader some end l =
-        from (Some best) (sym (ap (pick ahead at (Some best)) end) ∙ l.answer) (sym (ap not (ne_eqb mask 0 (λ z. let none = slots_none mask z in let c : ◌≡◌ {A = ℕ} 0 1 = cc in omega arith)))) (λ j o. l.numbered j o (ap (has j) end))
+  -- nothing is left
+  pub looked_all : (best k : ℕ) (xs left : List ℕ) (leader : Candidate) → slots_of mask ≡ k ∷ xs → left ≡ [] → Looked ahead at mask left best leader → ChosenFrom ahead at mask (Some best)
+  looked_all best k xs left leader some end l =
+      from (Some best) (sym (ap (pick ahead at (Some best)) end) ∙ l.answer) (sym (ap not (ne_eqb mask 0 (λ z. let none = slots_none mask z in let c : ◌≡◌ {A = ℕ} 0 1 = cc in omega arith)))) (λ j o. l.numbered j o (ap (has j) end))
