@@ -7,7 +7,8 @@ ghost use Rattle.runs.specs.Ticking.{drops};
 ghost use Rattle.dispatch.specs.Cores.{Agrees, Owned, drops_at};
 
 use super::lookup::{job_at, task_of, within};
-use order::mask::{with_slot, without_lowest};
+use order::mask::with_slot;
+use order::slots::Slots;
 use runs::answer::Job;
 use table::table::Table;
 
@@ -31,13 +32,10 @@ pub(crate) fn past_assured(table: &Table, jobs: &[Option<Job>; 32], pending: u32
     ensures bits { (k : ℕ) → bit result k ≡ drops_at (draft_of table.now) jobs.now k }
 {
     let mut past = 0;
-    let mut rest = pending;
-    while rest != 0 {
-        let slot = rest.trailing_zeros();
+    for slot in Slots::of(pending) {
         if is_past(table, jobs, slot) {
             past = with_slot(past, slot);
         }
-        rest = without_lowest(rest);
     }
     past
 }
@@ -47,10 +45,8 @@ pub(crate) fn clear(jobs: &mut [Option<Job>; 32], mask: u32)
     ensures at { (k : ℕ) → slice_index_or jobs.new k None ≡ (if bit mask k then None else slice_index_or jobs.old k None) }
     ensures long { length jobs.new ≡ 32 }
 {
-    let mut rest = mask;
-    while rest != 0 {
-        jobs[rest.trailing_zeros() as usize] = None;
-        rest = without_lowest(rest);
+    for slot in Slots::of(mask) {
+        jobs[slot as usize] = None;
     }
 }
 

@@ -1,111 +1,72 @@
 -- Laws of `bit`.
-use Rattle.std.proofs.Common.{◌≡◌, ℕ, zero, suc, ◌+◌, ◌-◌, ◌/◌, ◌%◌, ◌^◌, ◌<◌, ◌≤◌, Bool, true, false, cond, not, ◌&&◌, ◌||◌, eqb, ◌≢◌, sym, refl, ap, ◌∙◌, mod-lt, pow-suc, div-one, one-add, arith}
-use native.Mathlib.Nat.{div-eq_of_lt, zero-div}
+use Rattle.std.proofs.Common.{◌≡◌, ℕ, zero, suc, ◌+◌, ◌-◌, ◌/◌, ◌%◌, ◌^◌, ◌<◌, ◌≤◌, Bool, true, false, cond, not, ◌&&◌, ◌||◌, eqb, ◌≢◌, sym, refl, ap, ◌∙◌, mod-lt, pow-suc, w32, min, max, arith}
 use native.Mathlib.Decide.{dec_le, ℕ_discrete}
-use lib.Bits.{bit_and, bit_or, and_shr, and_mod, or_shr, or_mod}
+use lib.Bits.{bit_and, bit_or}
 use lib.Count.{count_trailing_zeros, under, ones, ones_step, ones-le}
-use Rattle.std.proofs.lemmas.Nat.{pow_pos, shr-shr, pow_below}
-use Rattle.std.proofs.lemmas.Bool.{ne_eqb}
+use Rattle.std.specs.Int.{bit_at}
+use Rattle.std.proofs.lemmas.Nat.{pow_pos, pow_below}
+use Rattle.std.proofs.lemmas.Nat.Bits.{bit_at_lowest, bit_at-suc, bit_at-zero, bit_at-lt, bit_at_above, bit_at_and, bit_at_or, bit_at_not, bit_at-pow_same, bit_at-pow_other, bit_at-trailing_zeros, same_from_bits_below}
+use Rattle.std.proofs.lemmas.Bool.{ne_eqb, eq-eqb}
 use Rattle.std.proofs.lemmas.Bool.Decides.{nat_tests}
 use Rattle.table.specs.Sums.{sum}
-use Rattle.order.specs.Bits.{bit, count}
+use Rattle.order.specs.Bits.{bit, count, lowest}
 
--- bit 0, and the bits above it
-pub bit_first : (m : ℕ) → bit m 0 ≡ eqb (m % 2) 1
+bit_first : (m : ℕ) → bit m 0 ≡ eqb (m % 2) 1
 unfolding bit
-bit_first m = ap (λ x. eqb (x % 2) 1) (div-one m)
+bit_first m = ap (λ x. eqb x 1) (bit_at_lowest m)
 
-pub bit_half : (m j : ℕ) → bit m (suc j) ≡ bit (m / 2) j
+bit_half : (m j : ℕ) → bit m (suc j) ≡ bit (m / 2) j
 unfolding bit
-bit_half m j = ap (λ x. eqb (x % 2) 1) (ap (λ t. m / 2 ^ t) (sym (one-add j)) ∙ sym (shr-shr m 1 j))
+bit_half m j = ap (λ x. eqb x 1) (bit_at-suc m j)
 
 pub bit_none : (j : ℕ) → bit 0 j ≡ false
 unfolding bit
-bit_none j = ap (λ x. eqb (x % 2) 1) (zero-div (2 ^ j))
+bit_none j = ap (λ x. eqb x 1) (bit_at-zero j)
 
 -- no bit is set at or above the width
 pub bit_above : (n m k : ℕ) → m < 2 ^ n → n ≤ k → bit m k ≡ false
 unfolding bit
-bit_above n m k h l = ap (λ x. eqb (x % 2) 1) (div-eq_of_lt (omega (arith, pow_grows n k l, h)))
-  where
-    pow_grows : (a b : ℕ) → a ≤ b → 2 ^ a ≤ 2 ^ b
-    pow_grows a b h = elim (dec_le b a) [
-      | yes l ↦ let e : a ≡ b = omega arith in rw e (omega arith)
-      | no l ↦ omega (arith, pow_below a b (omega arith))
-    ]
-
--- masks joined bit by bit
-and_digit : (x y : ℕ) → x < 2 → y < 2 → eqb (bit_and x y) 1 ≡ (eqb x 1 && eqb y 1)
-and_digit zero zero h l = refl
-and_digit zero (suc zero) h l = refl
-and_digit (suc zero) zero h l = refl
-and_digit (suc zero) (suc zero) h l = refl
-and_digit zero (suc (suc y)) h l = absurd (omega arith)
-and_digit (suc zero) (suc (suc y)) h l = absurd (omega arith)
-and_digit (suc (suc x)) y h l = absurd (omega arith)
-
-or_digit : (x y : ℕ) → x < 2 → y < 2 → eqb (bit_or x y) 1 ≡ (eqb x 1 || eqb y 1)
-or_digit zero zero h l = refl
-or_digit zero (suc zero) h l = refl
-or_digit (suc zero) zero h l = refl
-or_digit (suc zero) (suc zero) h l = refl
-or_digit zero (suc (suc y)) h l = absurd (omega arith)
-or_digit (suc zero) (suc (suc y)) h l = absurd (omega arith)
-or_digit (suc (suc x)) y h l = absurd (omega arith)
+bit_above n m k h l = ap (λ x. eqb x 1) (bit_at_above m n k h l)
 
 pub bit_of_and : (a b k : ℕ) → bit (bit_and a b) k ≡ (bit a k && bit b k)
 unfolding bit
-bit_of_and a b k =
-    ap (λ x. eqb (x % 2) 1) (and_shr a b k) ∙ ap (λ x. eqb x 1) (and_mod (a / 2 ^ k) (b / 2 ^ k) 1)
-    ∙ and_digit (a / 2 ^ k % 2) (b / 2 ^ k % 2) (mod-lt (a / 2 ^ k) (omega arith)) (mod-lt (b / 2 ^ k) (omega arith))
+bit_of_and a b k = ap (λ x. eqb x 1) (bit_at_and a b k) ∙ by (bit_at a k) (bit_at b k) (bit_at-lt a k) (bit_at-lt b k)
+  where
+    by : (x y : ℕ) → x < 2 → y < 2 → eqb (min x y) 1 ≡ (eqb x 1 && eqb y 1)
+    by x y h l = grind (arith, nat_tests)
 
-pub bit_of_or : (a b k : ℕ) → bit (bit_or a b) k ≡ (bit a k || bit b k)
+bit_of_or : (a b k : ℕ) → bit (bit_or a b) k ≡ (bit a k || bit b k)
 unfolding bit
-bit_of_or a b k =
-    ap (λ x. eqb (x % 2) 1) (or_shr a b k) ∙ ap (λ x. eqb x 1) (or_mod (a / 2 ^ k) (b / 2 ^ k) 1)
-    ∙ or_digit (a / 2 ^ k % 2) (b / 2 ^ k % 2) (mod-lt (a / 2 ^ k) (omega arith)) (mod-lt (b / 2 ^ k) (omega arith))
+bit_of_or a b k = ap (λ x. eqb x 1) (bit_at_or a b k) ∙ by (bit_at a k) (bit_at b k) (bit_at-lt a k) (bit_at-lt b k)
+  where
+    by : (x y : ℕ) → x < 2 → y < 2 → eqb (max x y) 1 ≡ (eqb x 1 || eqb y 1)
+    by x y h l = grind (arith, nat_tests)
 
 -- a bit alone
-eqb_suc : (a b : ℕ) → eqb (suc a) (suc b) ≡ eqb a b
-eqb_suc a b = grind (arith, nat_tests)
-
-pub bit_power : (s k : ℕ) → bit (2 ^ s) k ≡ eqb k s
+bit_power : (s k : ℕ) → bit (2 ^ s) k ≡ eqb k s
 unfolding bit
-bit_power zero zero = refl
-bit_power zero (suc k) = bit_half 1 k ∙ bit_none k ∙ sym (ne_eqb (suc k) 0 (λ e. omega (arith, e)))
-bit_power (suc s) zero =
-    let e : 2 ^ suc s % 2 ≡ 0 = omega (arith, pow-suc 2 s) in
-    bit_first (2 ^ suc s) ∙ ap (λ x. eqb x 1) e ∙ sym (ne_eqb 0 (suc s) (λ q. omega (arith, q)))
-bit_power (suc s) (suc k) =
-    let e : 2 ^ suc s / 2 ≡ 2 ^ s = omega (arith, pow-suc 2 s) in
-    bit_half (2 ^ suc s) k ∙ ap (λ x. bit x k) e ∙ bit_power s k ∙ sym (eqb_suc k s)
+bit_power s k = elim (ℕ_discrete k s) [
+  | yes e ↦ rw (eq-eqb k s e, e) (ap (λ x. eqb x 1) (bit_at-pow_same s))
+  | no ne ↦ rw (ne_eqb k s ne) (ap (λ x. eqb x 1) (bit_at-pow_other s k ne))
+]
 
--- the other bits of a word of w
-pub bit_not : (w m k : ℕ) → m < 2 ^ w → k < w → bit (2 ^ w - 1 - m) k ≡ not (bit m k)
-bit_not zero m k h l = absurd (omega (arith, l))
-bit_not (suc w) m zero h l =
-    bit_first (2 ^ suc w - 1 - m) ∙ flip (m % 2) (mod-lt m (omega arith)) (omega (arith, pow-suc 2 w, h)) ∙ ap not (sym (bit_first m))
+-- the other bits of a word
+pub bit_not : (m k : ℕ) → m < 2 ^ 32 → k < 32 → bit (2 ^ 32 - 1 - m) k ≡ not (bit m k)
+unfolding bit
+bit_not m k h l = ap (λ x. eqb x 1) (bit_at_not w32 m k h l) ∙ by (bit_at m k) (bit_at-lt m k)
   where
-    flip : (d : ℕ) → d < 2 → (2 ^ suc w - 1 - m) % 2 ≡ 1 - d → eqb ((2 ^ suc w - 1 - m) % 2) 1 ≡ not (eqb d 1)
-    flip zero l e = ap (λ x. eqb x 1) e
-    flip (suc zero) l e = ap (λ x. eqb x 1) e
-    flip (suc (suc d)) l e = absurd (omega arith)
-bit_not (suc w) m (suc k) h l =
-    let e : (2 ^ suc w - 1 - m) / 2 ≡ 2 ^ w - 1 - m / 2 = omega (arith, pow-suc 2 w, h) in
-    bit_half (2 ^ suc w - 1 - m) k ∙ ap (λ x. bit x k) e ∙ bit_not w (m / 2) k (omega (arith, pow-suc 2 w, h)) (omega (arith, l)) ∙ ap not (sym (bit_half m k))
+    by : (x : ℕ) → x < 2 → eqb (1 - x) 1 ≡ not (eqb x 1)
+    by x h = grind (arith, nat_tests)
 
--- a bit set, and a bit of a word of w cleared
+-- a bit set, and a bit of a word cleared
 pub bit_with : (m s k : ℕ) → bit (bit_or m (2 ^ s)) k ≡ (bit m k || eqb k s)
 bit_with m s k = bit_of_or m (2 ^ s) k ∙ ap (λ b. bit m k || b) (bit_power s k)
 
-pub bit_without : (w m s k : ℕ) → m < 2 ^ w → s < w → bit (bit_and m (2 ^ w - 1 - 2 ^ s)) k ≡ (bit m k && not (eqb k s))
-bit_without w m s k h l = bit_of_and m (2 ^ w - 1 - 2 ^ s) k ∙ by_width
-  where
-    by_width : (bit m k && bit (2 ^ w - 1 - 2 ^ s) k) ≡ (bit m k && not (eqb k s))
-    by_width = elim (dec_le w k) [
-      | yes a ↦ rw (bit_above w m k h a)
-      | no a ↦ let b : k < w = omega arith in rw (bit_not w (2 ^ s) k (pow_below s w l) b, bit_power s k)
-    ]
+pub bit_without : (m s k : ℕ) → m < 2 ^ 32 → s < 32 → bit (bit_and m (2 ^ 32 - 1 - 2 ^ s)) k ≡ (bit m k && not (eqb k s))
+bit_without m s k h l = bit_of_and m (2 ^ 32 - 1 - 2 ^ s) k ∙ elim (dec_le 32 k) [
+  | yes a ↦ rw (bit_above 32 m k h a)
+  | no a ↦ rw (bit_not (2 ^ s) k (pow_below s 32 l) (omega arith), bit_power s k)
+]
 
 -- a word of w has no bit at or above w to clear
 pub bit_without_none : (w m s k : ℕ) → m < 2 ^ w → w ≤ s → bit m k ≡ (bit m k && not (eqb k s))
@@ -120,46 +81,27 @@ bit_without_none w m s k h l = elim (ℕ_discrete k s) [
 
 -- a number is known by its bits
 pub bits_same : (w a b : ℕ) → a < 2 ^ w → b < 2 ^ w → ((k : ℕ) → k < w → bit a k ≡ bit b k) → a ≡ b
-bits_same zero a b h l f = omega (arith, h, l)
-bits_same (suc w) a b h l f =
-    let halves : a / 2 ≡ b / 2 = bits_same w (a / 2) (b / 2) (omega (arith, pow-suc 2 w, h)) (omega (arith, pow-suc 2 w, l)) (λ k i. sym (bit_half a k) ∙ f (suc k) (omega (arith, i)) ∙ bit_half b k) in
-    let firsts : eqb (a % 2) 1 ≡ eqb (b % 2) 1 = sym (bit_first a) ∙ f 0 (omega arith) ∙ bit_first b in
-    omega (arith, halves, digit (a % 2) (b % 2) (mod-lt a (omega arith)) (mod-lt b (omega arith)) firsts)
+unfolding bit
+bits_same w a b h l f = same_from_bits_below w a b h l (λ k i. by (bit_at a k) (bit_at b k) (bit_at-lt a k) (bit_at-lt b k) (f k i))
   where
-    digit : (x y : ℕ) → x < 2 → y < 2 → eqb x 1 ≡ eqb y 1 → x ≡ y
-    digit x y h l e = grind (arith, nat_tests)
+    by : (x y : ℕ) → x < 2 → y < 2 → eqb x 1 ≡ eqb y 1 → x ≡ y
+    by x y h l e = grind (arith, nat_tests)
 
 pub bits_none : (w m : ℕ) → m < 2 ^ w → ((k : ℕ) → k < w → bit m k ≡ false) → m ≡ 0
 bits_none w m h f = bits_same w m 0 h (pow_pos w) (λ k l. f k l ∙ sym (bit_none k))
 
 -- the lowest bit that is set
-pub lowest_set : (w m : ℕ) → m < 2 ^ w → m ≢ 0 → (bit m (count_trailing_zeros w m) ≡ true) × (count_trailing_zeros w m < w)
-unfolding count_trailing_zeros
-lowest_set zero m h ne = absurd (ne (omega (arith, h)))
-lowest_set (suc w) m h ne = by_digit (m % 2) refl (mod-lt m (omega arith)) (lowest_set w (m / 2) (omega (arith, pow-suc 2 w, h)))
-  where
-    by_digit : (d : ℕ) → m % 2 ≡ d → d < 2 → (m / 2 ≢ 0 → (bit (m / 2) (count_trailing_zeros w (m / 2)) ≡ true) × (count_trailing_zeros w (m / 2) < w))
-        → (bit m (under d (count_trailing_zeros w (m / 2))) ≡ true) × (under d (count_trailing_zeros w (m / 2)) < suc w)
-    by_digit zero e l f =
-        let low = f (λ z. ne (omega (arith, e, z))) in
-        (bit_half m (count_trailing_zeros w (m / 2)) ∙ low.0, omega (arith, low.1))
-    by_digit (suc zero) e l f = (bit_first m ∙ ap (λ x. eqb x 1) e, omega arith)
-    by_digit (suc (suc d)) e l f = absurd (omega (arith, l))
+pub lowest_set : (m : ℕ) → m < 2 ^ 32 → m ≢ 0 → (bit m (lowest m) ≡ true) × (lowest m < 32)
+unfolding bit
+lowest_set m h ne = let low = bit_at-trailing_zeros w32 m (omega arith) h in (ap (λ x. eqb x 1) low.1, low.0)
 
 -- no bit below it is set
-pub lowest_none : (w m k : ℕ) → k < count_trailing_zeros w m → bit m k ≡ false
-unfolding count_trailing_zeros
-lowest_none zero m k h = absurd (omega (arith, h))
-lowest_none (suc w) m zero h = by_digit (m % 2) refl h
-  where
-    by_digit : (d : ℕ) → m % 2 ≡ d → 0 < under d (count_trailing_zeros w (m / 2)) → bit m 0 ≡ false
-    by_digit zero e l = bit_first m ∙ ap (λ x. eqb x 1) e
-    by_digit (suc d) e l = absurd (omega (arith, l))
-lowest_none (suc w) m (suc k) h = bit_half m k ∙ lowest_none w (m / 2) k (by_digit (m % 2) h)
-  where
-    by_digit : (d : ℕ) → suc k < under d (count_trailing_zeros w (m / 2)) → k < count_trailing_zeros w (m / 2)
-    by_digit zero l = omega (arith, l)
-    by_digit (suc d) l = absurd (omega (arith, l))
+pub lowest_none : (m k : ℕ) → m < 2 ^ 32 → m ≢ 0 → k < lowest m → bit m k ≡ false
+unfolding bit
+lowest_none m k h ne l = let low = bit_at-trailing_zeros w32 m (omega arith) h in ap (λ x. eqb x 1) (low.2 k l)
+
+eqb_suc : (a b : ℕ) → eqb (suc a) (suc b) ≡ eqb a b
+eqb_suc a b = grind (arith, nat_tests)
 
 -- m - 1 has the bits of m above the lowest, and not the lowest
 less_one : (w m k : ℕ) → m < 2 ^ w → m ≢ 0 → (bit m k && bit (m - 1) k) ≡ (bit m k && not (eqb k (count_trailing_zeros w m)))

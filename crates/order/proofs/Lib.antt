@@ -1,3 +1,4 @@
 pub mod Bits
 pub mod Chosen
 pub mod Looked
+pub mod Listed

@@ -1,110 +1,90 @@
--- How far the chooser has come: it has looked at the slots of the mask that are not left in `rest`.
-use Rattle.std.proofs.Common.{◌≡◌, ℕ, ◌+◌, ◌^◌, ◌<◌, Bool, true, false, cond, not, ◌&&◌, ◌||◌, eqb, ◌≢◌, is_some, Some, None, Option, sym, refl, ◌∙◌, arith}
-use native.Mathlib.Decide.{ℕ_discrete}
-use Rattle.std.proofs.lemmas.Bool.{eq-eqb, ne_eqb}
-use Rattle.std.proofs.lemmas.Nat.{pow_pos}
+-- How far the chooser has come: going on over the slots that are left gives the first choice.
+use Rattle.std.proofs.Common.{◌≡◌, ℕ, zero, suc, ◌+◌, ◌^◌, ◌<◌, Bool, true, false, cond, not, eqb, List, [], ◌∷◌, is_some, Some, None, Option, sym, refl, ap, ◌∙◌, add-zero, add-one, arith}
+use Rattle.std.specs.List.{filter, fold, range_with_len}
+use native.Mathlib.Decide.{dec_le, ℕ_discrete}
+use Rattle.std.proofs.lemmas.Bool.{ne_eqb, lt-ltb, le-ltb}
 use Rattle.order.specs.declared.candidate.Candidate.{Candidate}
 use Rattle.order.specs.Orders.{Ahead, TieLaws}
-use Rattle.order.specs.Bits.{bit, lowest}
-use Rattle.order.specs.Choice.{Numbered, First, Chosen, ChosenFrom}
-use Rattle.order.proofs.Bits.{bit_none, bit_above, lowest_set}
-use Rattle.order.proofs.Chosen.{chosen_same, chosen_more, chosen_once, chosen_computed}
+use Rattle.order.specs.Bits.{bit, slots_of}
+use Rattle.order.specs.Choice.{Numbered, Chosen, below, leader, choice_below, first_choice, ChosenFrom}
+use Rattle.order.proofs.Bits.{bit_above}
+use Rattle.order.proofs.Listed.{has, has_slot, slot_below, slots_none, no_slots}
+use Rattle.order.proofs.Chosen.{chosen_same, chosen_once, choice_chosen}
 
-abbrev pub seen : ℕ → ℕ → ℕ → Bool
-seen mask rest k = bit mask k && not (bit rest k)
+-- the first of some slots and the one chosen before them
+abbrev pub pick : Ahead → (ℕ → Candidate) → Option ℕ → List ℕ → Option ℕ
+pick ahead at r xs = fold (λ r k. Some (leader ahead at r k)) r xs
 
-pub record Looked (ahead : Ahead) (at : ℕ → Candidate) (mask rest best : ℕ) : Type 0 where
-  pub word : rest < 2 ^ 32
-  pub within : (k : ℕ) → bit rest k ≡ true → bit mask k ≡ true
-  pub numbered : Numbered at (seen mask rest)
-  pub leads : First ahead at (seen mask rest) best
-
--- one slot more has been seen
-seen_more : (mask rest left s k : ℕ) → (bit rest k ≡ true → bit mask k ≡ true) → bit rest s ≡ true → bit left k ≡ (bit rest k && not (eqb k s))
-    → seen mask left k ≡ (seen mask rest k || eqb k s)
-seen_more mask rest left s k sub here e = elim (ℕ_discrete k s) [
-  | yes z ↦
-      let same : eqb k s ≡ true = eq-eqb k s z in
-      let r : bit rest k ≡ true = rw z here in
-      let m : bit mask k ≡ true = sub r in
-      rw (e, r, m, same)
-  | no ne ↦ let apart : eqb k s ≡ false = ne_eqb k s ne in rw (e, apart) (drop (bit mask k) (bit rest k))
-]
+choice_range : (ahead : Ahead) (at : ℕ → Candidate) (p : ℕ → Bool) (a n : ℕ) → pick ahead at (choice_below a ahead at p) (filter p (range_with_len a n)) ≡ choice_below (a + n) ahead at p
+unfolding choice_below
+choice_range ahead at p a zero = ap (λ i. choice_below i ahead at p) (sym (add-zero a))
+choice_range ahead at p a (suc n) =
+    let next : a + 1 + n ≡ a + suc n = omega arith in
+    by (p a) refl (ap (λ i. pick ahead at (choice_below i ahead at p) (filter p (range_with_len (a + 1) n))) (sym (add-one a)) ∙ choice_range ahead at p (a + 1) n ∙ ap (λ i. choice_below i ahead at p) next)
   where
-    drop : (a b : Bool) → (a && not (b && true)) ≡ ((a && not b) || false)
-    drop true true = refl
-    drop true false = refl
-    drop false true = refl
-    drop false false = refl
+    by : (t : Bool) → p a ≡ t → pick ahead at (choice_below (suc a) ahead at p) (filter p (range_with_len (a + 1) n)) ≡ choice_below (a + suc n) ahead at p
+        → pick ahead at (choice_below a ahead at p) (cond t (a ∷ filter p (range_with_len (a + 1) n)) (filter p (range_with_len (a + 1) n))) ≡ choice_below (a + suc n) ahead at p
+    by true e f = ap (λ b. pick ahead at (cond b (Some (leader ahead at (choice_below a ahead at p) a)) (choice_below a ahead at p)) (filter p (range_with_len (a + 1) n))) (sym e) ∙ f
+    by false e f = ap (λ b. pick ahead at (cond b (Some (leader ahead at (choice_below a ahead at p) a)) (choice_below a ahead at p)) (filter p (range_with_len (a + 1) n))) (sym e) ∙ f
 
-numbered_more : (at : ℕ → Candidate) (p q : ℕ → Bool) (s : ℕ) → Numbered at p → (at s).number ≡ s + 1 → ((k : ℕ) → q k ≡ (p k || eqb k s)) → Numbered at q
-numbered_more at p q s was new e k o = elim (ℕ_discrete k s) [
-  | yes z ↦ rw z new
-  | no ne ↦ let apart : eqb k s ≡ false = ne_eqb k s ne in let f = e k in was k (grind arith)
-]
+pick_all : (ahead : Ahead) (at : ℕ → Candidate) (m : ℕ) → pick ahead at None (slots_of m) ≡ first_choice ahead at (bit m)
+unfolding slots_of choice_below
+pick_all ahead at m = choice_range ahead at (bit m) 0 32
 
-left_within : (mask rest left s : ℕ) → ((k : ℕ) → bit rest k ≡ true → bit mask k ≡ true) → ((k : ℕ) → bit left k ≡ (bit rest k && not (eqb k s))) → (k : ℕ) → bit left k ≡ true → bit mask k ≡ true
-left_within mask rest left s sub e k o = let f = e k in sub k (grind arith)
+-- the leader is the candidate of the best slot so far
+pub record Looked (ahead : Ahead) (at : ℕ → Candidate) (mask : ℕ) (left : List ℕ) (best : ℕ) (leader : Candidate) : Type 0 where
+  pub leads : leader ≡ at best
+  pub answer : pick ahead at (Some best) left ≡ first_choice ahead at (bit mask)
+  pub numbered : (k : ℕ) → bit mask k ≡ true → has k left ≡ false → (at k).number ≡ k + 1
 
-module _ (ahead : Ahead) (at : ℕ → Candidate) (laws : TieLaws ahead) where
-  -- one answer, and what is computed
-  from : (mask : ℕ) (r : Option ℕ) → mask < 2 ^ 32 → is_some r ≡ not (eqb mask 0) → Numbered at (bit mask) → Chosen ahead at (bit mask) r → ChosenFrom ahead at mask r
-  from mask r h e numbered f = record {
-    chosen = f;
-    only = λ s g. chosen_once ahead at laws (bit mask) numbered s r g f;
-    some = e;
-    computed = chosen_computed ahead at laws (bit mask) r (λ k w. bit_above 32 mask k h w) numbered f;
+module _ (ahead : Ahead) (at : ℕ → Candidate) (mask : ℕ) where
+  -- the first slot
+  pub looked_first : (k : ℕ) (left : List ℕ) (x : Candidate) → mask < 2 ^ 32 → slots_of mask ≡ k ∷ left → x ≡ at k → (k < 32 → x.number ≡ k + 1) → Looked ahead at mask left k x
+  looked_first k left x h e is new = record {
+    leads = is;
+    answer = sym (ap (pick ahead at None) e) ∙ pick_all ahead at mask;
+    numbered = λ j o out. elim (ℕ_discrete j k) [
+      | yes z ↦ rw z (sym (ap (λ x. x.number) is) ∙ new (slot_below mask k left e))
+      | no ne ↦ let apart : eqb k j ≡ false = ne_eqb k j (λ q. ne (sym q)) in let in_mask : has j (k ∷ left) ≡ bit mask j = sym (ap (has j) e) ∙ has_slot mask j h in grind arith
+    ];
   }
 
-  -- there is no slot
-  pub none_offered : (mask : ℕ) → mask ≡ 0 → ChosenFrom ahead at mask None
-  none_offered mask e =
-      let none : (k : ℕ) → bit mask k ≡ false = λ k. rw e (bit_none k) in
-      let numbered : Numbered at (bit mask) = λ k o. let f = none k in let z : ◌≡◌ {A = ℕ} 0 1 = cc in absurd (omega arith) in
-      from mask None (rw e (pow_pos 32)) (rw e) numbered none
-
-  -- the first slot
-  pub looked_first : (mask left : ℕ) → mask < 2 ^ 32 → left < 2 ^ 32 → mask ≢ 0 → (at (lowest mask)).number ≡ lowest mask + 1 → ((k : ℕ) → bit left k ≡ (bit mask k && not (eqb k (lowest mask))))
-      → Looked ahead at mask left (lowest mask)
-  looked_first mask left h w ne new e =
-      let here = (lowest_set 32 mask h ne).0 in
-      let more : (k : ℕ) → seen mask left k ≡ (seen mask mask k || eqb k (lowest mask)) = λ k. seen_more mask mask left (lowest mask) k (λ o. o) here (e k) in
-      let all : Numbered at (seen mask left) = numbered_more at (seen mask mask) (seen mask left) (lowest mask) (λ k o. absurd (unseen (bit mask k) o)) new more in
-      record {
-        word = w;
-        within = left_within mask mask left (lowest mask) (λ k o. o) e;
-        numbered = all;
-        leads = chosen_more ahead at laws (seen mask mask) (seen mask left) (lowest mask) None all (rw here) more (λ k. none (bit mask k));
-      }
-    where
-      none : (a : Bool) → (a && not a) ≡ false
-      none true = refl
-      none false = refl
-
-      unseen : (a : Bool) → (a && not a) ≡ true → ⊥
-      unseen a o = let f = none a in let z : ◌≡◌ {A = ℕ} 0 1 = cc in omega arith
-
   -- one slot more
-  pub looked_more : (mask rest left best : ℕ) (t : Bool) → ahead (at (lowest rest)) (at best) ≡ t → left < 2 ^ 32 → rest ≢ 0 → (at (lowest rest)).number ≡ lowest rest + 1 → ((k : ℕ) → bit left k ≡ (bit rest k && not (eqb k (lowest rest))))
-      → Looked ahead at mask rest best → Looked ahead at mask left (cond t (lowest rest) best)
-  looked_more mask rest left best t goes w ne new e l =
-      let here = (lowest_set 32 rest l.word ne).0 in
-      let more : (k : ℕ) → seen mask left k ≡ (seen mask rest k || eqb k (lowest rest)) = λ k. seen_more mask rest left (lowest rest) k (l.within k) here (e k) in
-      let all : Numbered at (seen mask left) = numbered_more at (seen mask rest) (seen mask left) (lowest rest) l.numbered new more in
-      record {
-        word = w;
-        within = left_within mask rest left (lowest rest) l.within e;
-        numbered = all;
-        leads = rw goes at (chosen_more ahead at laws (seen mask rest) (seen mask left) (lowest rest) (Some best) all (rw (l.within (lowest rest) here, here)) more l.leads);
-      }
+  pub looked_more : (m best k : ℕ) (rest : List ℕ) (leader x : Candidate) (t : Bool) → slots_of m ≡ k ∷ rest → x ≡ at k → (k < 32 → x.number ≡ k + 1) → t ≡ ahead x leader
+      → Looked ahead at mask (slots_of m) best leader → Looked ahead at mask rest (cond t k best) (cond t x leader)
+  looked_more m best k rest leader x t e is new goes l = record {
+    leads = by t;
+    answer = ap (λ b. pick ahead at (Some (cond b k best)) rest) told ∙ sym (ap (pick ahead at (Some best)) e) ∙ l.answer;
+    numbered = λ j o out. elim (ℕ_discrete j k) [
+      | yes z ↦ rw z (sym (ap (λ x. x.number) is) ∙ new (slot_below m k rest e))
+      | no ne ↦ let apart : eqb k j ≡ false = ne_eqb k j (λ q. ne (sym q)) in l.numbered j o (ap (has j) e ∙ rw (apart, out))
+    ];
+  }
+    where
+      by : (t : Bool) → cond t x leader ≡ at (cond t k best)
+      by true = is
+      by false = l.leads
+
+      told : t ≡ ahead (at k) (at best)
+      told = goes ∙ ap (λ y. ahead y leader) is ∙ ap (ahead (at k)) l.leads
+
+module _ (ahead : Ahead) (at : ℕ → Candidate) (laws : TieLaws ahead) (mask : ℕ) (word : mask < 2 ^ 32) where
+  few : (k : ℕ) → below 32 (bit mask) k ≡ bit mask k
+  few k = elim (dec_le 32 k) [ yes h ↦ rw (bit_above 32 mask k word h, le-ltb k 32 h) | no h ↦ rw (lt-ltb k 32 (omega arith)) ]
+
+  from : (r : Option ℕ) → r ≡ first_choice ahead at (bit mask) → is_some r ≡ not (eqb mask 0) → Numbered at (bit mask) → ChosenFrom ahead at mask r
+  from r is some numbered =
+      let all : Numbered at (below 32 (bit mask)) = λ k o. numbered k (sym (few k) ∙ o) in
+      let chosen : Chosen ahead at (bit mask) r = rw is (chosen_same ahead at (below 32 (bit mask)) (bit mask) _ (λ k. sym (few k)) (choice_chosen ahead at laws (bit mask) 32 32 (omega arith) all)) in
+      record { chosen = chosen; only = λ s g. chosen_once ahead at laws (bit mask) numbered s r g chosen; some = some; computed = is }
+
+  -- there is no slot
+  pub none_offered : slots_of mask ≡ [] → ChosenFrom ahead at mask None
+  none_offered e =
+      let none : (k : ℕ) → bit mask k ≡ false = λ k. sym (has_slot mask k word) ∙ ap (has k) e in
+      from None (sym (ap (pick ahead at None) e) ∙ pick_all ahead at mask) (rw (no_slots mask word e)) (λ k o. let f = none k in let z : ◌≡◌ {A = ℕ} 0 1 = cc in absurd (omega arith))
 
   -- nothing is left
-  pub looked_all : (mask best : ℕ) → mask < 2 ^ 32 → mask ≢ 0 → Looked ahead at mask 0 best → ChosenFrom ahead at mask (Some best)
-  looked_all mask best h ne l =
-      let all : (k : ℕ) → bit mask k ≡ seen mask 0 k = λ k. rw (bit_none k) (whole (bit mask k)) in
-      let leads : First ahead at (bit mask) best = chosen_same ahead at (seen mask 0) (bit mask) (Some best) all l.leads in
-      from mask (Some best) h (rw (ne_eqb mask 0 ne)) (λ k o. l.numbered k (sym (all k) ∙ o)) leads
-    where
-      whole : (a : Bool) → a ≡ (a && true)
-      whole true = refl
-      whole false = refl
+  pub looked_all : (best k : ℕ) (xs left : List ℕ) (leader : Candidate) → slots_of mask ≡ k ∷ xs → left ≡ [] → Looked ahead at mask left best leader → ChosenFrom ahead at mask (Some best)
+  looked_all best k xs left leader some end l =
+      from (Some best) (sym (ap (pick ahead at (Some best)) end) ∙ l.answer) (sym (ap not (ne_eqb mask 0 (λ z. let none = slots_none mask z in let c : ◌≡◌ {A = ℕ} 0 1 = cc in omega arith)))) (λ j o. l.numbered j o (ap (has j) end))

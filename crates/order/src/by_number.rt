@@ -18,6 +18,6 @@ impl TieOrder for ByNumber {
     ghost refines_deadlines = { Prim.search rules };
 
     fn goes_ahead(&self, a: &Candidate, b: &Candidate) -> bool {
-        a.deadline < b.deadline || a.deadline == b.deadline && a.number < b.number
+        (a.deadline, a.number) < (b.deadline, b.number)
     }
 }

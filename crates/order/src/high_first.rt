@@ -1,12 +1,11 @@
-ghost use Rattle.std.specs.Prelude.{◌≡◌, nat_lt};
-ghost use Rattle.order.specs.Ties.{high_first, high_then_number, rank};
+ghost use Rattle.std.specs.Prelude.{nat_lt};
+ghost use Rattle.order.specs.Ties.{high_first, rank};
 ghost use Rattle.std.proofs.Common.{arith, rules};
 ghost use Rattle.std.proofs.lemmas.Bool.Decides.{nat_tests};
 ghost use Rattle.order.specs.Keys.{smaller_or_transitive};
 
 use super::candidate::Candidate;
 use super::tie_order::TieOrder;
-use tasks::task::Level;
 
 // By deadline, then high before low, then number.
 #[derive(Clone, Copy)]
@@ -25,17 +24,6 @@ impl TieOrder for HighFirst {
     ghost refines_deadlines = { Prim.search rules };
 
     fn goes_ahead(&self, a: &Candidate, b: &Candidate) -> bool {
-        a.deadline < b.deadline || a.deadline == b.deadline && breaks_tie(a, b)
-    }
-}
-
-// High before low, then number.
-fn breaks_tie(a: &Candidate, b: &Candidate) -> bool
-    ensures { result ≡ high_then_number a.now b.now }
-{
-    match (a.level, b.level) {
-        (Level::High, Level::Low) => true,
-        (Level::Low, Level::High) => false,
-        (Level::High, Level::High) | (Level::Low, Level::Low) => a.number < b.number,
+        (a.deadline, a.level, a.number) < (b.deadline, b.level, b.number)
     }
 }

@@ -7,6 +7,7 @@ pub mod candidates;
 pub mod chooser;
 pub mod high_first;
 pub mod mask;
+pub mod slots;
 #[cfg(test)]
 mod tests;
 pub mod tie_order;

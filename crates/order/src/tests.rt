@@ -1,4 +1,5 @@
-ghost use Rattle.std.specs.Prelude.{◌+◌, if◌then◌else◌, nat_lt, slice_index, slice_index_or};
+ghost use Rattle.std.specs.Prelude.{◌+◌, if◌then◌else◌, nat_lt, slice_index_or};
+ghost use Rattle.table.specs.Tasks.{ticks};
 ghost use Rattle.tasks.specs.declared.task.Level.TheVariants.{High};
 ghost use Rattle.order.specs.Orders.{candidate};
 
@@ -11,20 +12,26 @@ use super::tie_order::TieOrder;
 use tasks::task::Level;
 use tasks::units::Ticks;
 
+// When a job is due, and its task's level.
+#[derive(Clone, Copy)]
+struct Due {
+    deadline: Ticks,
+    level: Level,
+}
+
 // Jobs as a dispatcher holds them: borrowed slots.
 #[derive(Drop)]
 struct View<'a> {
-    deadlines: &'a [u64; 32],
-    levels: &'a [Level; 32],
+    jobs: &'a [Due; 32],
 }
 
 impl Candidates for View<'_> {
-    ghost at = { λ v k. (if nat_lt k 32 then candidate (slice_index v.deadlines.now k) (slice_index_or v.levels.now k High) (k + 1) else candidate 0 High 0) };
+    ghost at = { λ v k. let job = slice_index_or v.jobs.now k (record { deadline = ticks 0; level = High }) in (if nat_lt k 32 then candidate job.deadline.0 job.level (k + 1) else candidate 0 High 0) };
 
     fn candidate(&self, slot: u32) -> Candidate {
         if slot < 32 {
-            let k = slot as usize;
-            Candidate::new(Ticks(self.deadlines[k]), self.levels[k], slot + 1)
+            let job = self.jobs[slot as usize];
+            Candidate::new(job.deadline, job.level, slot + 1)
         } else {
             Candidate::new(Ticks(0), Level::High, 0)
         }
@@ -42,8 +49,7 @@ fn orders_decide(rt: HostRuntime) {
         (4, Level::High, 4, Level::Low, true, true),
         (4, Level::Low, 4, Level::High, true, false),
     ];
-    for i in 0..6 {
-        let (due_a, level_a, due_b, level_b, by_number, high_first) = table[i];
+    for (due_a, level_a, due_b, level_b, by_number, high_first) in table {
         let a = Candidate::new(Ticks(due_a), level_a, 1);
         let b = Candidate::new(Ticks(due_b), level_b, 2);
         assert_eq!(rt; ByNumber.goes_ahead(&a, &b), by_number);
@@ -56,19 +62,21 @@ fn orders_decide(rt: HostRuntime) {
 // A mask, the first slot by number, and the first slot with high first.
 #[test]
 fn chooser_finds(rt: HostRuntime) {
-    let mut deadlines = [7; 32];
-    deadlines[0] = 5;
-    deadlines[1] = 3;
-    deadlines[2] = 3;
-    deadlines[3] = 3;
-    deadlines[31] = 1;
-    let mut levels = [Level::High; 32];
-    levels[1] = Level::Low;
-    levels[3] = Level::Low;
-    let view = View {
-        deadlines: &deadlines,
-        levels: &levels,
+    let high = |deadline| Due {
+        deadline: Ticks(deadline),
+        level: Level::High,
     };
+    let low = |deadline| Due {
+        deadline: Ticks(deadline),
+        level: Level::Low,
+    };
+    let mut jobs = [high(7); 32];
+    jobs[0] = high(5);
+    jobs[1] = low(3);
+    jobs[2] = high(3);
+    jobs[3] = low(3);
+    jobs[31] = high(1);
+    let view = View { jobs: &jobs };
     let table = [
         (0, None, None),
         (0b0001, Some(0), Some(0)),
@@ -78,8 +86,7 @@ fn chooser_finds(rt: HostRuntime) {
         (0b11_0000, Some(4), Some(4)),
         (0x8000_000f, Some(31), Some(31)),
     ];
-    for i in 0..7 {
-        let (mask, by_number, high_first) = table[i];
+    for (mask, by_number, high_first) in table {
         assert_eq!(rt; first(&ByNumber, &view, mask), by_number);
         assert_eq!(rt; first(&HighFirst, &view, mask), high_first);
     }

@@ -5,7 +5,8 @@ use Rattle.table.specs.Sums.{sum}
 use Rattle.runs.proofs.Machine.{Table, Accepted, State, assured, HighRuns}
 use Rattle.runs.proofs.Machine.{idle, live}
 use Rattle.runs.specs.declared.answer.Mode.TheVariants.{Low as low, High as high}
-use Rattle.runs.proofs.Sums.{sum_bump, sum_zero, bump, bump_own, bump_other}
+use Rattle.table.proofs.Sums.{sum_zeros}
+use Rattle.runs.proofs.Sums.{sum_bump, bump, bump_own, bump_other}
 use Rattle.runs.proofs.HighRows.{HRow, hrow_serve, hrow_move, hrow_own}
 use Rattle.runs.proofs.Ledgers.{cap, past, JobFacts, Facts, High, assured≤C, cap_same, capped_same, loaded_same}
 use Rattle.runs.proofs.LowKeeps.{low≢high, idle≢live}
@@ -20,7 +21,7 @@ high_fresh P s d td none = record {
   σ≤a = omega arith;
   a≤t = omega arith;
   ends = omega arith;
-  total = omega (arith, sum_zero P.n);
+  total = omega (arith, sum_zeros P.n (λ i. 0 + 0) (λ k l. refl));
   rowA = λ i l. HRow.empty refl;
   rowB = λ i l. rowB' P.q (P.T i) (past P i) s.clock (P.p * (d - s.clock));
   new = λ i r u l e h. absurd (none i r u l e h);
@@ -96,7 +97,7 @@ module _ (P : Table) (ok : Accepted P) (s s' : State) (i r u : ℕ) (run : HighR
 
       sums : sum P.n (λ j. bump led.x i j + led.y j) ≡ sum P.n (λ j. led.x j + led.y j) + 1
       sums = sum_bump P.n (λ j. led.x j + led.y j) (λ j. bump led.x i j + led.y j) i run.runs.below
-          (omega (arith, bump_own led.x i)) (λ j l ne. omega (arith, bump_other led.x i j ne))
+          (omega (arith, bump_own led.x i)) (λ j ne. omega (arith, bump_other led.x i j ne))
 
       a_own : HRow P.q P.p (P.T i) (cap P s' i) (assured P i) led.σ led.a led.δ (s'.job i) (s'.next i) (bump led.x i i)
       a_own =

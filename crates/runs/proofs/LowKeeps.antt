@@ -6,7 +6,8 @@ use Rattle.runs.specs.declared.answer.Mode.{Mode}
 use Rattle.runs.proofs.Machine.{Table, Accepted, State, assured, due, load, LowRuns}
 use Rattle.runs.proofs.Machine.{Pend, idle, live}
 use Rattle.runs.specs.declared.answer.Mode.TheVariants.{Low as low, High as high}
-use Rattle.runs.proofs.Sums.{sum_same, sum_bump, sum_zero, bump, bump_own, bump_other}
+use Rattle.table.proofs.Sums.{sum_zeros}
+use Rattle.runs.proofs.Sums.{sum_same, sum_bump, bump, bump_own, bump_other}
 use Rattle.runs.proofs.Rows.{Row, row_serve, row_pass, row_raise, row_move, row_own}
 use Rattle.runs.proofs.Ledgers.{cap, past, JobFacts, Facts, Low, due_early, due_late, due_grows}
 
@@ -15,7 +16,7 @@ low_fresh P s V none = record {
   σ = s.clock;
   x = λ i. 0;
   y = λ i. 0;
-  total = omega (arith, sum_zero P.n);
+  total = omega (arith, sum_zeros P.n (λ i. 0 + 0) (λ k l. refl));
   rowA = λ i l. Row.empty refl;
   rowB = λ i l. Row.empty refl;
   new = λ i r u l e h. absurd (none i r u l e h);
@@ -155,7 +156,7 @@ module _ (P : Table) (ok : Accepted P) (s s' : State) (i r u : ℕ) (run : LowRu
 
       sums : sum P.n (λ j. bump led.x i j + led.y j) ≡ sum P.n (λ j. led.x j + led.y j) + 1
       sums = sum_bump P.n (λ j. led.x j + led.y j) (λ j. bump led.x i j + led.y j) i run.runs.below
-          (omega (arith, bump_own led.x i)) (λ j l ne. omega (arith, bump_other led.x i j ne))
+          (omega (arith, bump_own led.x i)) (λ j ne. omega (arith, bump_other led.x i j ne))
 
       thr : P.q * r + P.p * P.T i ≤ V
       thr = omega (arith, counts, ap (λ z. P.q * z) (due_early P i r u early), ok.virtual i run.runs.below)
@@ -203,7 +204,7 @@ module _ (P : Table) (ok : Accepted P) (s s' : State) (i r u : ℕ) (run : LowRu
 
       sums : sum P.n (λ j. led.x j + bump led.y i j) ≡ sum P.n (λ j. led.x j + led.y j) + 1
       sums = sum_bump P.n (λ j. led.x j + led.y j) (λ j. led.x j + bump led.y i j) i run.runs.below
-          (omega (arith, bump_own led.y i)) (λ j l ne. omega (arith, bump_other led.y i j ne))
+          (omega (arith, bump_own led.y i)) (λ j ne. omega (arith, bump_other led.y i j ne))
 
       thr : P.q * r + P.q * P.T i ≤ V
       thr = omega (arith, counts, ap (λ z. P.q * z) (due_late P i r u own.short late))

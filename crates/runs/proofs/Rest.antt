@@ -1,16 +1,11 @@
 -- With nothing pending every ledger begins anew.
-use Rattle.std.proofs.Common.{◌≡◌, ℕ, zero, suc, ◌*◌, ◌<◌, ◌≤◌, Bool, true, false, cond, refl, arith}
-use Rattle.table.specs.Sums.{sum}
+use Rattle.std.proofs.Common.{◌≡◌, ℕ, ◌*◌, ◌<◌, ◌≤◌, Bool, true, false, cond, refl, arith}
+use Rattle.table.proofs.Sums.{sum_zeros}
 use Rattle.runs.proofs.Machine.{Table, State, Idles}
 use Rattle.runs.proofs.Machine.{idle}
 use Rattle.runs.proofs.Ledgers.{Low, High, Inv, capped_same, loaded_same}
 use Rattle.runs.proofs.LowKeeps.{idle≢live, low_fresh}
 use Rattle.runs.proofs.HighKeeps.{high_fresh}
-
-sum_none : (n : ℕ) (f : ℕ → ℕ) → ((i : ℕ) → i < n → f i ≡ 0) → sum n f ≡ 0
-unfolding sum
-sum_none zero f e = refl
-sum_none (suc k) f e = omega (arith, sum_none k f (λ i l. e i (omega arith)), e k (omega arith))
 
 none_of : (b : Bool) (w L : ℕ) → L ≡ 0 → cond b (w * L) 0 ≡ 0
 none_of true w L e = rw e (omega arith)
@@ -33,7 +28,7 @@ module _ (P : Table) (s : State) (empty : (i : ℕ) → i < P.n → s.job i ≡ 
     facts = record {
       jobs = λ i r u l e. absurd (idle≢live r u (empty i l) e);
       capped = λ i l. small_of (P.isHigh i) (s.longest i) (P.C i) (P.g i) (zeros i l);
-      loaded = omega (arith, sum_none P.n _ (λ i l. none_of (P.isHigh i) (P.w i) (s.longest i) (zeros i l)));
+      loaded = omega (arith, sum_zeros P.n _ (λ i l. none_of (P.isHigh i) (P.w i) (s.longest i) (zeros i l)));
     };
     lows = λ _. empty_lows;
     highs = λ _. empty_highs;

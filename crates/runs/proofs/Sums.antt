@@ -1,23 +1,13 @@
 -- Sums below n: bounds, equality, one point raised by one.
-use Rattle.std.proofs.Common.{◌≡◌, ℕ, zero, suc, ◌+◌, ◌*◌, ◌<◌, ◌≤◌, ◌≢◌, refl, arith}
-use native.Mathlib.Decide.{ℕ_discrete}
+use Rattle.std.proofs.Common.{◌≡◌, ℕ, zero, suc, ◌+◌, ◌*◌, ◌<◌, ◌≤◌, cond, eqb, ◌≢◌, refl, arith}
+use Rattle.std.proofs.lemmas.Bool.{eq-eqb, ne_eqb}
 use Rattle.table.specs.Sums.{sum}
+use Rattle.table.proofs.Sums.{sum_swap}
 pub use Rattle.table.proofs.Sums.{sum_same}
 
 -- one point raised by one
-pub sum_bump : (n : ℕ) (f g : ℕ → ℕ) (i : ℕ) → i < n → g i ≡ f i + 1 → ((j : ℕ) → j < n → j ≢ i → g j ≡ f j) → sum n g ≡ sum n f + 1
-unfolding sum
-sum_bump zero f g i l at off = omega arith
-sum_bump (suc k) f g i l at off =
-    elim (ℕ_discrete i k) [
-      | yes e ↦
-          let below = sum_same k g f (λ j m. off j (omega arith) (omega arith)) in
-          let here : g k ≡ f k + 1 = rw e at at in
-          omega arith
-      | no ne ↦
-          let below = sum_bump k f g i (omega arith) at (λ j m. off j (omega arith)) in
-          omega (arith, off k (omega arith) (omega arith))
-    ]
+pub sum_bump : (n : ℕ) (f g : ℕ → ℕ) (i : ℕ) → i < n → g i ≡ f i + 1 → ((j : ℕ) → j ≢ i → g j ≡ f j) → sum n g ≡ sum n f + 1
+sum_bump n f g i l at off = omega (arith, sum_swap n i g f l off)
 
 -- a bound of the terms by three others is one of the sums
 pub sum_bound : (n P α β γ : ℕ) (m a b c : ℕ → ℕ) → ((i : ℕ) → i < n → P * m i ≤ α * a i + β * b i + γ * c i) → P * sum n m ≤ α * sum n a + β * sum n b + γ * sum n c
@@ -34,33 +24,14 @@ sum_add (suc k) h f g e =
     let below = sum_add k h f g (λ i l. e i (omega arith)) in
     omega (arith, e k (omega arith))
 
-pub sum_zero : (n : ℕ) → sum n (λ i. 0 + 0) ≡ 0
-unfolding sum
-sum_zero zero = refl
-sum_zero (suc k) = omega (arith, sum_zero k)
-
 -- f raised by one at i
-bump_by : (f : ℕ → ℕ) (i j : ℕ) → Dec (j ≡ i) → ℕ
-bump_by f i j (yes e) = f j + 1
-bump_by f i j (no ne) = f j
-
 pub bump : (ℕ → ℕ) → ℕ → ℕ → ℕ
-bump f i j = bump_by f i j (ℕ_discrete j i)
-
-bump_by_own : (f : ℕ → ℕ) (i : ℕ) (d : Dec (i ≡ i)) → bump_by f i i d ≡ f i + 1
-unfolding bump_by
-bump_by_own f i (yes e) = refl
-bump_by_own f i (no ne) = absurd (ne refl)
-
-bump_by_other : (f : ℕ → ℕ) (i j : ℕ) (d : Dec (j ≡ i)) → j ≢ i → bump_by f i j d ≡ f j
-unfolding bump_by
-bump_by_other f i j (yes e) h = absurd (h e)
-bump_by_other f i j (no ne) h = refl
+bump f i j = cond (eqb j i) (f j + 1) (f j)
 
 pub bump_own : (f : ℕ → ℕ) (i : ℕ) → bump f i i ≡ f i + 1
 unfolding bump
-bump_own f i = bump_by_own f i (ℕ_discrete i i)
+bump_own f i = rw (eq-eqb i i refl)
 
 pub bump_other : (f : ℕ → ℕ) (i j : ℕ) → j ≢ i → bump f i j ≡ f j
 unfolding bump
-bump_other f i j h = bump_by_other f i j (ℕ_discrete j i) h
+bump_other f i j ne = rw (ne_eqb j i ne)

@@ -1,4 +1,4 @@
--- The number of each refusal; the call of an entry, and the number by which it was refused.
+-- The number of each refusal; the call of an entry, a call with no answer yet, and the number by which an entry was refused.
 use Rattle.std.specs.Prelude.{ℕ, Some, None, Ok, Err, Option}
 use Rattle.runs.specs.declared.refusal.ArrivalRefusal.{ArrivalRefusal}
 use Rattle.runs.specs.declared.refusal.ArrivalRefusal.TheVariants.{ForeignRule, NoSuchTask, TooEarly, StillPending, NoAssuredPart}
@@ -23,6 +23,10 @@ tick_number (ClockEnd t) = 14
 abbrev pub call_of : Entry → Call
 call_of (Arrive i a) = ArriveCall i
 call_of (Tick mark a) = TickCall mark
+
+abbrev pub unanswered : Call → Entry
+unanswered (ArriveCall i) = Arrive i None
+unanswered (TickCall mark) = Tick mark None
 
 abbrev pub refused_by : Entry → Option ℕ
 refused_by (Arrive i None) = None

@@ -1,6 +1,6 @@
 ghost use Rattle.std.specs.Prelude.{◌≡◌};
 ghost use Rattle.runs.specs.Logs.{spans, switches, calm};
-ghost use Rattle.runs.specs.Numbers.{call_of};
+ghost use Rattle.runs.specs.Numbers.{call_of, unanswered};
 
 use crate::answer::Answer;
 use crate::call::{Call, Mark};
@@ -14,35 +14,43 @@ pub enum Entry {
     Tick(Mark, Option<Result<Answer, TickRefusal>>),
 }
 
-impl Entry {
-    // The call without its answer.
-    pub fn call(&self) -> Call
-        ensures { result ≡ call_of self.now }
-    {
-        match self {
+// The call of an entry, without its answer.
+impl From<&Entry> for Call {
+    ghost from_gives = { λ entry call. call ≡ call_of entry.now };
+
+    fn from(entry: &Entry) -> Call {
+        match entry {
             Entry::Arrive(task, _) => Call::Arrive(*task),
             Entry::Tick(mark, _) => Call::Tick(*mark),
         }
     }
+}
 
+// A call that is still unanswered.
+impl From<Call> for Entry {
+    ghost from_gives = { λ call entry. entry ≡ unanswered call };
+
+    fn from(call: Call) -> Entry {
+        match call {
+            Call::Arrive(task) => Entry::Arrive(task, None),
+            Call::Tick(mark) => Entry::Tick(mark, None),
+        }
+    }
+}
+
+impl Entry {
     // How many accepted ticks it stands for.
     pub fn ticks(&self) -> Ticks
         ensures { result.0 ≡ spans self.now }
     {
-        match self {
-            Entry::Tick(_, Some(Ok(_))) => Ticks(1),
-            _ => Ticks(0),
-        }
+        Ticks(u64::from(matches!(self, Entry::Tick(_, Some(Ok(_))))))
     }
 
     // Whether its answer says that the tick switched.
     pub fn switched(&self) -> bool
         ensures { result ≡ switches self.now }
     {
-        match self {
-            Entry::Tick(_, Some(Ok(answer))) => answer.switched,
-            _ => false,
-        }
+        matches!(self, Entry::Tick(_, Some(Ok(answer))) if answer.switched)
     }
 
     // How many of its ticks come before a switch in it.

@@ -8,8 +8,9 @@ use Rattle.table.specs.Verdict.{Draft}
 use Rattle.order.specs.Orders.{Ahead}
 use Rattle.budget.specs.Meaning.{Meaning}
 use Rattle.runs.specs.declared.call.Call.{Call}
+use Rattle.runs.specs.declared.call.Call.TheVariants.{Arrive, Tick}
 use Rattle.runs.specs.declared.entry.Entry.{Entry}
-use Rattle.runs.specs.Numbers.{call_of}
+use Rattle.runs.specs.Numbers.{call_of, unanswered}
 use Rattle.runs.specs.States.{State, OfTable}
 use Rattle.runs.specs.Logs.{calm, switches, before_switch, switched_in, since}
 use Rattle.runs.specs.Produced.{Kind, Produced}
@@ -27,6 +28,10 @@ young_more d xs i e h old new n l =
       | yes k ↦ rw (take-set-le n xs i e k) (old n k)
       | no k ↦ let q : n ≡ i + 1 = omega arith in rw (q, log_more xs i e h) new
     ]
+
+pub call_of_unanswered : (c : Call) → call_of (unanswered c) ≡ c
+call_of_unanswered (Arrive i) = refl
+call_of_unanswered (Tick mark) = refl
 
 pub count_none : (kind : Kind) (d : Draft) (ahead : Ahead) (m : Meaning) (s : State) (calls : List Call) → Produced kind d ahead [] m s → OfTable d m → Counting kind d ahead m s (take 0 calls) 0 false
 unfolding before_switch switched_in

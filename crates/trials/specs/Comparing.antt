@@ -1,5 +1,8 @@
 -- What a replay and a comparison say.
-use Rattle.std.specs.Prelude.{◌≡◌, ℕ, ◌≤◌, Bool, List, map, reverse}
+use Rattle.std.specs.Prelude.{◌≡◌, ℕ, ◌≤◌, Bool, true, false, List, map, reverse}
+use Rattle.std.specs.declared.ops.ControlFlow.{ControlFlow}
+use Rattle.std.specs.declared.ops.ControlFlow.TheVariants.{Continue, Break}
+use Rattle.tasks.specs.declared.units.Ticks.{Ticks}
 use Rattle.table.specs.Verdict.{Draft}
 use Rattle.order.specs.Orders.{Ahead}
 use Rattle.budget.specs.Meaning.{Meaning}
@@ -38,6 +41,15 @@ pub record Compared (d : Draft) (ahead : Ahead) (calls : List Call) (shared othe
   pub other_calls : map call_of other_log ≡ reverse calls
   pub other_count : other ≡ before_switch other_log
   pub no_sooner : other ≤ shared
+
+-- the ticks of a count, and whether a switch has ended it
+abbrev pub counted : ControlFlow Ticks Ticks → ℕ
+counted (Continue t) = t.0
+counted (Break t) = t.0
+
+abbrev pub is_over : ControlFlow Ticks Ticks → Bool
+is_over (Continue t) = false
+is_over (Break t) = true
 
 -- a count along a log of some calls
 pub record Counting (kind : Kind) (d : Draft) (ahead : Ahead) (m : Meaning) (s : State) (calls : List Call) (ticks : ℕ) (over : Bool) : Type 0 where

@@ -1,18 +1,15 @@
 ghost use Rattle.std.specs.Prelude.{◌≡◌, Ok, Err};
 ghost use Rattle.table.specs.Tables.{draft_of};
-ghost use Rattle.runs.specs.Numbers.{call_of};
 ghost use Rattle.runs.specs.States.{OfTable};
 ghost use Rattle.trials.specs.Comparing.{Compared};
 
-use super::answering::answer;
-use super::count::Count;
+use super::playing::ticks_before_switch;
 use super::refusal::CompareRefusal;
 use budget::rule::Rule;
 use budget::shared::Shared;
 use dispatch::dispatcher::Dispatcher;
 use order::tie_order::TieOrder;
 use runs::call::Call;
-use runs::entry::Entry;
 use table::table::Table;
 use tasks::units::Ticks;
 
@@ -21,20 +18,6 @@ use tasks::units::Ticks;
 pub struct Counts {
     pub shared: Ticks,
     pub other: Ticks,
-}
-
-const NOTHING: Count = Count {
-    ticks: Ticks(0),
-    over: false,
-};
-
-fn unanswered(call: Call) -> Entry
-    ensures { call_of result ≡ call }
-{
-    match call {
-        Call::Arrive(task) => Entry::Arrive(task, None),
-        Call::Tick(mark) => Entry::Tick(mark, None),
-    }
 }
 
 // Plays the calls under the table's shared rule and under another, and counts the ticks before the first switch of each.
@@ -52,15 +35,7 @@ pub fn compare<R: Rule + Drop, O: TieOrder>(
     if second.rule_is_foreign() {
         return Err(CompareRefusal::ForeignRule);
     }
-    let mut most = NOTHING;
-    let mut least = NOTHING;
-    for i in 0..calls.len() {
-        let call = calls[i];
-        most = most.after(&answer(&mut sharing, unanswered(call)));
-        least = least.after(&answer(&mut second, unanswered(call)));
-    }
-    Ok(Counts {
-        shared: most.ticks,
-        other: least.ticks,
-    })
+    let shared = ticks_before_switch(&mut sharing, calls);
+    let other = ticks_before_switch(&mut second, calls);
+    Ok(Counts { shared, other })
 }

@@ -4,5 +4,6 @@
 pub(crate) mod answering;
 pub mod compare;
 pub(crate) mod count;
+pub(crate) mod playing;
 pub mod refusal;
 pub mod replay;

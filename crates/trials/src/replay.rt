@@ -18,7 +18,7 @@ pub fn replay<R: Rule + Drop, O: TieOrder>(table: &Table, rule: R, order: &O, en
     ensures young { (n : ℕ) → n ≤ length entries.new → Young (draft_of table.now) (reverse (take n entries.new)) }
 {
     let mut dispatcher = Dispatcher::new(table, rule, order);
-    for i in 0..entries.len() {
-        entries[i] = answer(&mut dispatcher, entries[i]);
+    for entry in entries.iter_mut() {
+        *entry = answer(&mut dispatcher, *entry);
     }
 }

@@ -12,17 +12,17 @@ use Rattle.trials.proofs.replay.replay.Goals as goal
 keeps : (g : given.Over) (x : g.row.R.Denot) → Keeps lawful (g.R.Rule.meaning x)
 keeps g x = record { law = record { bounded = g.met.R.Rule.bounded x; silent = g.met.R.Rule.silent x; fits = g.met.R.Rule.fits x }; exactly = tt }
 
-pub loop-i-init : goal.loop-i-init
-loop-i-init g c =
+pub loop-entry-init : goal.loop-entry-init
+loop-entry-init g c =
     let e = c.new-dispatcher.ensures in
     (e.fixed.0, e.fixed.1, refl, young_none (draft_of c.args.table.now) c.args.entries.now, e.log, record { weights = λ i. refl; total = refl })
 
-pub loop-i-preserved : goal.loop-i-preserved
-loop-i-preserved g c =
-    let xs = c.loop-i.entries in
-    let i = c.loop-i.i in
+pub loop-entry-preserved : goal.loop-entry-preserved
+loop-entry-preserved g c =
+    let xs = c.loop-entry.entries in
+    let i = c.loop-entry.entry-index in
     let r = c.answer.result in
-    let inv = c.loop-i.invariant in
+    let inv = c.loop-entry.invariant in
     let d = draft_of c.args.table.now in
     let lt : i < length xs = omega arith in
     let e = c.answer.ensures in
@@ -38,11 +38,11 @@ loop-i-preserved g c =
 
 pub returns : goal.returns
 returns g c =
-    let xs = c.loop-i.entries in
-    let inv = c.loop-i.invariant in
-    let all : take c.loop-i.i xs ≡ xs = take_all c.loop-i.i xs (omega arith) in
+    let xs = c.loop-entry.entries in
+    let inv = c.loop-entry.invariant in
+    let all : take c.loop-entry.entry-index xs ≡ xs = take_all c.loop-entry.entry-index xs (omega arith) in
     record {
       calls = inv.2;
-      log = (c.loop-i.dispatcher.rule, record { state = _; produced = rw all at inv.4 }, alike_then _ _ _ (alike_rested _ _ c.new-dispatcher.ensures.rested) inv.5);
+      log = (c.loop-entry.dispatcher.rule, record { state = _; produced = rw all at inv.4 }, alike_then _ _ _ (alike_rested _ _ c.new-dispatcher.ensures.rested) inv.5);
       young = λ n l. inv.3 n (omega arith);
     }
