@@ -10,6 +10,7 @@ use super::draft::Draft;
 use super::table::Table;
 use super::unless::refuse_unless;
 use tasks::refusal::TableRefusal;
+use tasks::slots::filled;
 use tasks::task::{Task, Tests};
 
 // The tasks, and blank slots behind them.
@@ -17,9 +18,7 @@ fn slots_of(tasks: &[Task]) -> [Task; 32]
     requires { length tasks.now ≤ 32 }
     ensures { (k : ℕ) → slot result k ≡ slot tasks.now k }
 {
-    let mut slots = [Task::BLANK; 32];
-    slots[..tasks.len()].copy_from_slice(tasks);
-    slots
+    filled(tasks, Task::BLANK)
 }
 
 fn check_tests(tests: Tests) -> Result<(), TableRefusal>

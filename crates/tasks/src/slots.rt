@@ -1,4 +1,4 @@
-ghost use Rattle.std.specs.Prelude.{◌≡◌, ℕ, ◌≤◌, length, slice_index_or};
+ghost use Rattle.std.specs.Prelude.{◌≡◌, ℕ, slice_index_or, take};
 ghost use Rattle.tasks.specs.Slots.{at_number};
 
 // What a list has for the task of a number. Task number k + 1 stands at slot k; no task has number 0.
@@ -8,12 +8,12 @@ pub fn at_number<T: Copy>(slots: &[T], number: u32) -> Option<T>
     slots.get(number.checked_sub(1)? as usize).copied()
 }
 
-// The items by slot, and blank ones behind them.
+// The items by slot, and blank ones behind them. There are 32 slots, and items behind those are left out.
 pub fn filled<T: Copy>(items: &[T], blank: T) -> [T; 32]
-    requires { length items.now ≤ 32 }
-    ensures { (k : ℕ) → slice_index_or result k blank ≡ slice_index_or items.now k blank }
+    ensures { (k : ℕ) → slice_index_or result k blank ≡ slice_index_or (take 32 items.now) k blank }
 {
     let mut slots = [blank; 32];
-    slots[..items.len()].copy_from_slice(items);
+    let count = items.len().min(32);
+    slots[..count].copy_from_slice(&items[..count]);
     slots
 }
