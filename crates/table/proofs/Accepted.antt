@@ -1,8 +1,9 @@
 -- A draft is accepted exactly when the plain inequalities hold.
-use Rattle.std.proofs.Common.{◌≡◌, ℕ, ◌+◌, ◌*◌, ◌/◌, ◌%◌, ◌≤◌, Bool, true, false, eqb, leb, List, is_some, Some, None, Option, sym, refl, ap, mul_comm, arith}
+use Rattle.std.proofs.Common.{◌≡◌, ℕ, ◌+◌, ◌*◌, ◌/◌, ◌%◌, ◌≤◌, ◌∙◌, Bool, true, false, eqb, leb, List, is_some, Some, None, Option, sym, refl, ap, mul_comm, arith}
 use mathlib.Core.Path.{fun_ext}
 use native.Mathlib.Nat.{div-add-mod}
 use Rattle.std.proofs.lemmas.Bool.{leb-true, le-leb, eqb-true, eq-eqb, and_parts, and_from}
+use Rattle.std.proofs.lemmas.Option.{none-some}
 use Rattle.tasks.specs.declared.units.Shares.{Shares}
 use Rattle.tasks.specs.declared.task.Task.{Task}
 use Rattle.tasks.specs.declared.task.Factor.{Factor}
@@ -16,7 +17,7 @@ use Rattle.table.proofs.Firsts.{none_first, none_second, none_both, first_below_
 -- a test passes exactly where there is no refusal
 pub unless_none : {A : Type 0} (b : Bool) (r : A) → unless b r ≡ None → b ≡ true
 unless_none true r e = refl
-unless_none false r e = let z : ◌≡◌ {A = ℕ} 0 1 = cc in absurd (omega arith)
+unless_none false r e = cc
 
 pub none_unless : {A : Type 0} (b : Bool) (r : A) → b ≡ true → unless b r ≡ None
 none_unless b r e = rw e
@@ -146,14 +147,11 @@ same_draft h b f n xs ys e = let D : (ℕ → Task) → Draft = λ task. record 
 
 pub none_is : {A : Type 0} (x : Option A) → is_some x ≡ false → x ≡ None
 none_is None e = refl
-none_is (Some a) e = let z : ◌≡◌ {A = ℕ} 0 1 = cc in absurd (omega arith)
+none_is (Some a) e = cc
 
 pub is_none : {A : Type 0} (x : Option A) → None ≡ x → is_some x ≡ false
 is_none x e = ap is_some (sym e)
 
-some_none : {A : Type 0} (x : Option A) (a : A) → Some a ≡ x → x ≡ None → ⊥
-some_none x a e f = let z : ◌≡◌ {A = ℕ} 0 1 = cc in omega arith
-
 -- a refused draft lacks one of the facts
 pub refused : (d : Draft) (r : TableRefusal) → Some r ≡ verdict d → Accepted d → ⊥
-refused d r e a = some_none (verdict d) r e (accepts d a)
+refused d r e a = none-some r (sym (e ∙ accepts d a))

@@ -27,7 +27,7 @@ none_first (Some a) y e = e
 
 pub none_second : {A : Type 0} (x y : Option A) → or_else x y ≡ None → y ≡ None
 none_second None y e = e
-none_second (Some a) y e = let z : ◌≡◌ {A = ℕ} 0 1 = cc in absurd (omega arith)
+none_second (Some a) y e = cc
 
 pub none_both : {A : Type 0} (x y : Option A) → x ≡ None → y ≡ None → or_else x y ≡ None
 none_both x y e f = rw e f

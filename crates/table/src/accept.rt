@@ -1,9 +1,8 @@
-ghost use Rattle.std.specs.Prelude.{◌≡◌, ℕ, ◌<◌, ◌≤◌, [], ◌∷◌, length, Some, None, Ok, Err};
+ghost use Rattle.std.specs.Prelude.{◌≡◌, [], ◌∷◌, Ok, Err};
 ghost use Rattle.table.specs.Accepted.{Accepted};
 ghost use Rattle.table.specs.Drafts.{as_drafted};
 ghost use Rattle.table.specs.Firsts.{first_of, refusal};
 ghost use Rattle.table.specs.Tables.{draft_of};
-ghost use Rattle.table.specs.Tasks.{slot};
 ghost use Rattle.table.specs.Verdict.{verdict, low_fault, high_fault};
 
 use super::draft::Draft;
@@ -12,14 +11,6 @@ use super::unless::refuse_unless;
 use tasks::refusal::TableRefusal;
 use tasks::slots::filled;
 use tasks::task::{Task, Tests};
-
-// The tasks, and blank slots behind them.
-fn slots_of(tasks: &[Task]) -> [Task; 32]
-    requires { length tasks.now ≤ 32 }
-    ensures { (k : ℕ) → slot result k ≡ slot tasks.now k }
-{
-    filled(tasks, Task::BLANK)
-}
 
 fn check_tests(tests: Tests) -> Result<(), TableRefusal>
     ensures { refusal result ≡ first_of (low_fault tests ∷ high_fault tests ∷ []) }
@@ -49,7 +40,7 @@ impl Table {
             total: draft.total,
             factor: draft.factor,
             count: draft.tasks.len(),
-            tasks: slots_of(draft.tasks),
+            tasks: filled(draft.tasks, Task::BLANK),
         })
     }
 }

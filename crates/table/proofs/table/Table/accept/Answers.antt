@@ -14,13 +14,13 @@ pub invariant_of-result : goal.invariant_of-result
 invariant_of-result c =
     let d = c.args.draft.now in
     let ts = d.tasks.now in
-    let same = same_draft d.scale d.total d.factor (length ts) c.slots_of.result ts c.slots_of.ensures in
+    let same = same_draft d.scale d.total d.factor (length ts) c.filled.result ts c.filled.ensures in
     record { accepted = is_none _ (c.in_ok-check.ensures ∙ ap verdict (sym same)) }
 
 pub returns-clause-parts : goal.returns-clause-parts
 returns-clause-parts c =
     let d = c.args.draft.now in
-    same_draft d.scale d.total d.factor (length d.tasks.now) c.slots_of.result d.tasks.now c.slots_of.ensures
+    same_draft d.scale d.total d.factor (length d.tasks.now) c.filled.result d.tasks.now c.filled.ensures
 
 pub returns-clause-exact : goal.returns-clause-exact
 returns-clause-exact c = accepted (as_drafted c.args.draft.now) (sym c.in_ok-check.ensures)
