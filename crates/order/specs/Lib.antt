@@ -3,3 +3,4 @@ pub mod Ties
 pub mod Bits
 pub mod Choice
 pub mod Slots
+pub mod Keys

@@ -1,6 +1,6 @@
 ghost use Rattle.order.specs.Ties.{high_first};
-ghost use Rattle.std.proofs.Common.{arith, rules};
-ghost use Rattle.std.proofs.lemmas.Bool.Decides.{nat_tests};
+ghost use Rattle.std.proofs.Common.{rules};
+ghost use Rattle.order.specs.Keys.{smaller_or_transitive};
 
 use super::candidate::Candidate;
 use super::tie_order::TieOrder;
@@ -14,7 +14,7 @@ impl TieOrder for HighFirst {
 
     ghost one_way = { Prim.search rules };
 
-    ghost transitive = { λ x a b c ab bc ac p q. Prim.grind (arith, nat_tests) };
+    ghost transitive = { Prim.search (rules, smaller_or_transitive) };
 
     ghost refines_deadlines = { Prim.search rules };
 
