@@ -2,5 +2,5 @@ pub mod Orders
 pub mod Ties
 pub mod Bits
 pub mod Choice
-pub mod Keys
 pub mod Slots
+pub mod Keys
