@@ -1,8 +1,8 @@
 pub mod Pieces
 pub mod Digits
-pub mod Taken
 pub mod Reading
 pub mod Joined
+pub mod Numbered
 pub mod Numerals
 pub mod Good
 pub mod Whole

@@ -24,24 +24,3 @@ shown_some (Some l) = Some (shown l)
 abbrev pub shown_ok : {E : Type 0} → Result Line E → Result Item E
 shown_ok (Ok l) = Ok (shown l)
 shown_ok (Err e) = Err e
-
--- all of a list, if it has the right count
-abbrev pub all_if : Bool → List (List ℕ) → Option (List (List ℕ))
-all_if true fs = Some fs
-all_if false fs = None
-
-abbrev pub one : Option (Bor (List ℕ)) → Option (List (List ℕ))
-one None = None
-one (Some a) = Some (a.now ∷ [])
-
-abbrev pub two : Option (Bor (List ℕ) × Bor (List ℕ)) → Option (List (List ℕ))
-two None = None
-two (Some t) = Some (t.0.now ∷ t.1.now ∷ [])
-
-abbrev pub three : Option (Bor (List ℕ) × Bor (List ℕ) × Bor (List ℕ)) → Option (List (List ℕ))
-three None = None
-three (Some t) = Some (t.0.now ∷ t.1.now ∷ t.2.now ∷ [])
-
-abbrev pub four : Option (Bor (List ℕ) × Bor (List ℕ) × Bor (List ℕ) × Bor (List ℕ)) → Option (List (List ℕ))
-four None = None
-four (Some t) = Some (t.0.now ∷ t.1.now ∷ t.2.now ∷ t.3.now ∷ [])

@@ -5,18 +5,18 @@ ghost use Rattle.scenario.specs.Numbers.{value};
 pub fn number(field: &[u8]) -> Option<u32>
     ensures { result ≡ value field.now }
 {
-    if field.len() < 1 || field.len() > 9 {
+    if field.is_empty() || field.len() > 9 {
         return None;
     }
     if field[0] == b'0' && field.len() > 1 {
         return None;
     }
     let mut n: u32 = 0;
-    for b in field {
-        if *b < b'0' || *b > b'9' {
+    for digit in field {
+        if !digit.is_ascii_digit() {
             return None;
         }
-        n = n * 10 + (*b - b'0') as u32;
+        n = n * 10 + u32::from(*digit - b'0');
     }
     Some(n)
 }
