@@ -2,6 +2,7 @@ pub mod Pieces
 pub mod Digits
 pub mod Reading
 pub mod Joined
+pub mod Behind
 pub mod Numbered
 pub mod Numerals
 pub mod Good

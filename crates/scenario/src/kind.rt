@@ -69,16 +69,12 @@ impl Phase {
     pub(crate) fn allows(self, kind: Kind) -> bool
         ensures { result ≡ allowed self kind }
     {
-        matches!(
-            (self, kind),
-            (Phase::Start, Kind::Scale)
-                | (
-                    Phase::Tasks,
-                    Kind::High | Kind::Low | Kind::Shared | Kind::Fixed
-                )
-                | (Phase::Ruled, Kind::Ceiling | Kind::Arrival | Kind::Run)
-                | (Phase::Events, Kind::Arrival | Kind::Run)
-        )
+        match self {
+            Phase::Start => matches!(kind, Kind::Scale),
+            Phase::Tasks => matches!(kind, Kind::High | Kind::Low | Kind::Shared | Kind::Fixed),
+            Phase::Ruled => matches!(kind, Kind::Ceiling | Kind::Arrival | Kind::Run),
+            Phase::Events => matches!(kind, Kind::Arrival | Kind::Run),
+        }
     }
 
     // Whether the text may end here.

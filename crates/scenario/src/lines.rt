@@ -57,7 +57,7 @@ impl<'a> Line<'a> {
     }
 }
 
-// Whether 1 to 32 fields are left.
+// Whether 1 to 32 fields are left. The 33rd tells that there are more.
 fn is_list(fields: Fields) -> bool
     ensures { result ≡ in_range 1 32 (length (to_come fields.entry)) }
 {
