@@ -1,7 +1,9 @@
-use Rattle.std.proofs.Common.{◌≡◌, length, drop, sym, ap, ◌∙◌, rules, arith}
+use Rattle.std.proofs.Common.{◌≡◌, ◌+◌, length, drop, sym, ap, ◌∙◌, rules, arith}
 use Rattle.std.proofs.lemmas.Grind.{common_steps}
-use Rattle.output.specs.Lines.{before}
+use Rattle.std.proofs.lemmas.List.{take_rest}
+use Rattle.output.specs.Lines.{lines, before}
 use Rattle.scenario.specs.Items.{read}
+use Rattle.scenario.specs.Left.{others}
 use Rattle.scenario.specs.Shown.{shown, shown_ok}
 use Rattle.scenario.proofs.Good.{read_good}
 use Rattle.scenario.proofs.Reading.{next_line, lines_at}
@@ -22,9 +24,8 @@ returns-clause-item c =
 pub returns-clause-lines : goal.returns-clause-lines
 returns-clause-lines c =
     let s = c.args.self.now in
-    let e = lines_at s.text.now s.place.at (omega arith) in
-    let n = ap length c.before-bytes.ensures in
-    grind (arith, common_steps)
+    let line = c.before-bytes.ensures ∙ ap (before 10) (take_rest s.text.now s.place.at) in
+    ap (λ n. lines (drop (s.place.at + n + 1) s.text.now)) (ap length line) ∙ sym (ap others (lines_at s.text.now s.place.at (omega arith)))
 
 pub returns-clause-good : goal.returns-clause-good
 returns-clause-good c =
