@@ -1,5 +1,5 @@
 -- The first line of a text and the first field of a line, by the bytes before the first stop.
-use Rattle.std.proofs.Common.{◌≡◌, ◌≢◌, ℕ, zero, suc, ◌+◌, ◌<◌, ◌≤◌, Bool, true, false, cond, eqb, ltb, List, [], ◌∷◌, length, get_or, take, drop, Option, Some, None, Bor, sym, refl, ap, ◌∙◌, inl, inr, add-one, arith}
+use Rattle.std.proofs.Common.{◌≡◌, ◌≢◌, ℕ, zero, suc, ◌+◌, ◌<◌, ◌≤◌, Bool, true, false, cond, eqb, ltb, List, [], ◌∷◌, length, get_or, take, drop, Option, Some, None, Bor, MatchOption, sym, refl, ap, ◌∙◌, inl, inr, add-one, arith}
 use Rattle.std.specs.Slice.{IsGetRangeResult}
 use lib.Dec.{leb-suc-suc}
 use Rattle.std.proofs.lemmas.List.{take_rest}
@@ -8,17 +8,24 @@ use Rattle.output.specs.Lines.{before, lines, fields, onto_first}
 use Rattle.scenario.specs.Left.{left}
 
 -- a text up to its first stop
-pub before_at : (s : ℕ) (bs : List ℕ) (n : ℕ) → n < length bs → get_or bs n 0 ≡ s → ((k : ℕ) → k < n → get_or bs k 0 ≢ s) → take n bs ≡ before s bs
+before_at : (s : ℕ) (bs : List ℕ) (n : ℕ) → n < length bs → get_or bs n 0 ≡ s → ((k : ℕ) → k < n → get_or bs k 0 ≢ s) → take n bs ≡ before s bs
 before_at s [] n inside stop front = absurd (omega arith)
 before_at s (b ∷ bs) zero inside stop front = rw (eq-eqb b s stop)
 before_at s (b ∷ bs) (suc n) inside stop front =
     rw (ne_eqb b s (front 0 (omega arith))) (ap (λ xs. b ∷ xs) (before_at s bs n (omega arith) stop (λ k h. front (suc k) (omega arith))))
 
 -- a text without a stop
-pub before_all : (s : ℕ) (bs : List ℕ) → ((k : ℕ) → k < length bs → get_or bs k 0 ≢ s) → bs ≡ before s bs
+before_all : (s : ℕ) (bs : List ℕ) → ((k : ℕ) → k < length bs → get_or bs k 0 ≢ s) → bs ≡ before s bs
 before_all s [] none = refl
 before_all s (b ∷ bs) none =
     rw (ne_eqb b s (none 0 (omega arith))) (ap (λ xs. b ∷ xs) (before_all s bs (λ k h. none (suc k) (omega arith))))
+
+-- the front that a search for the stop tells
+pub before_found : (s : ℕ) (bs front : List ℕ) (place : Option ℕ)
+    → MatchOption place ((k : ℕ) → k < length bs → get_or bs k 0 ≢ s) (λ n. (n < length bs) × (get_or bs n 0 ≡ s) × ((k : ℕ) → k < n → get_or bs k 0 ≢ s))
+    → MatchOption place (front ≡ bs) (λ n. front ≡ take n bs) → front ≡ before s bs
+before_found s bs front None none is = is ∙ before_all s bs none
+before_found s bs front (Some n) found is = is ∙ before_at s bs n found.0 found.1 found.2
 
 pub lines_first : (bs : List ℕ) → 0 < length bs → lines bs ≡ before 10 bs ∷ lines (drop (length (before 10 bs) + 1) bs)
 lines_first [] h = absurd (omega arith)

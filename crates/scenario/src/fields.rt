@@ -7,10 +7,9 @@ ghost use Rattle.scenario.specs.Left.{to_come};
 pub(crate) fn before(text: &[u8], stop: u8) -> &[u8]
     ensures { result.now ≡ before stop text.now }
 {
-    match text.iter().position(|b| *b == stop) {
-        Some(end) => &text[..end],
-        None => text,
-    }
+    text.iter()
+        .position(|b| *b == stop)
+        .map_or(text, |end| &text[..end])
 }
 
 // The fields of a line that are still to come, as the rest of the line's own bytes; behind the last field there is no rest.
