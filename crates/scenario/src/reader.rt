@@ -68,6 +68,6 @@ pub fn check_text(text: &[u8]) -> Result<(), Fault>
     ensures { refusal result ≡ text_fault text.now }
 {
     let mut reader = Reader::new(text);
-    while let Some(_line) = reader.next_line()? {}
+    while reader.next_line()?.is_some() {}
     Ok(())
 }
