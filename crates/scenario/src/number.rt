@@ -2,6 +2,7 @@ ghost use Rattle.std.specs.Prelude.{◌≡◌};
 ghost use Rattle.scenario.specs.Numbers.{value};
 
 // The value of a number: 1 to 9 digits, with no 0 in front of others. None for anything else.
+#[tactic(auto, using(crate::proofs::Digits::eight_digits))]
 pub fn number(field: &[u8]) -> Option<u32>
     ensures { result ≡ value field.now }
 {

@@ -1,5 +1,4 @@
-use Rattle.std.proofs.Common.{rules, arith}
-use Rattle.std.proofs.lemmas.Grind.{common_steps}
+use Rattle.std.proofs.Common.{rules}
 use Rattle.scenario.proofs.lines.shaped.Goals as goal
 use Rattle.scenario.proofs.lines.shaped.Goals.{in-Scale+in_ok-next-in-Scale+in_ok-next-in-Scale-2+in_ok-next-in-Scale-3+in_ok-next-in-Scale-4, in-High+in_ok-next-in-High+in_ok-next-in-High-2, in-Low+in_ok-next-in-Low+in_ok-next-in-Low-2+in_ok-next-in-Low-3, in-Shared, in-Arrival+in_ok-next-in-Arrival+in_ok-next-in-Arrival-2, in-Run+in_ok-next-in-Run}
 

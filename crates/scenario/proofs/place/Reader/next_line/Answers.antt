@@ -1,10 +1,9 @@
-use Rattle.std.proofs.Common.{◌≡◌, ◌+◌, length, drop, sym, ap, ◌∙◌, rules, arith}
+use Rattle.std.proofs.Common.{◌+◌, length, drop, sym, ap, ◌∙◌, arith}
 use Rattle.std.proofs.lemmas.Grind.{common_steps}
 use Rattle.std.proofs.lemmas.List.{take_rest}
 use Rattle.output.specs.Lines.{lines, before}
-use Rattle.scenario.specs.Items.{read}
 use Rattle.scenario.specs.Left.{others}
-use Rattle.scenario.specs.Shown.{shown, shown_ok}
+use Rattle.scenario.specs.Shown.{shown}
 use Rattle.scenario.proofs.Good.{read_good}
 use Rattle.scenario.proofs.Reading.{next_line, lines_at}
 use Rattle.scenario.proofs.place.Reader.next_line.Goals as goal
