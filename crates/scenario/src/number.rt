@@ -12,6 +12,7 @@ pub fn number(field: &[u8]) -> Option<u32>
     if field[0] == b'0' && field.len() > 1 {
         return None;
     }
+    // A loop and no fold: only the count of digits so far tells that n * 10 fits.
     let mut n: u32 = 0;
     for digit in field {
         if !digit.is_ascii_digit() {
