@@ -1,5 +1,4 @@
 pub mod Outlined
-pub mod Amounts
 pub mod Showings
 pub mod Coursing
 pub mod Ticked

@@ -12,16 +12,13 @@ use tasks::units::Ticks;
 pub(crate) fn amount(field: &[u8]) -> u32
     ensures { result ≡ amount field.now }
 {
-    match number(field) {
-        Some(value) => value,
-        None => 0,
-    }
+    number(field).unwrap_or(0)
 }
 
 pub(crate) fn ticks(field: &[u8]) -> Ticks
     ensures { result.0 ≡ amount field.now }
 {
-    Ticks(amount(field) as u64)
+    Ticks(u64::from(amount(field)))
 }
 
 impl TickList {
@@ -37,12 +34,12 @@ pub(crate) fn tick_list(fields: Fields) -> TickList
     requires { length (to_come fields) ≤ 32 }
     ensures { listing result ≡ amounts (to_come fields.entry) }
 {
-    let mut rest = fields;
     let mut slots = [Ticks(0); 32];
-    let mut count: usize = 0;
-    while let Some(field) = rest.next_field() {
-        slots[count] = ticks(field);
-        count += 1;
+    for (slot, field) in fields.enumerate() {
+        slots[slot] = ticks(field);
     }
-    TickList { slots, count }
+    TickList {
+        slots,
+        count: fields.count(),
+    }
 }

@@ -2,7 +2,7 @@ ghost use Rattle.std.specs.Prelude.{◌≡◌, ◌≤◌, length};
 
 use tasks::units::Ticks;
 
-// The numbers of a line, at most 32.
+// The numbers of a line, at most 32: the first `count` of fixed slots, as nothing here allocates.
 #[derive(Clone, Copy)]
 pub(crate) struct TickList {
     pub(crate) slots: [Ticks; 32],

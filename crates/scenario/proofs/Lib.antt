@@ -1,8 +1,9 @@
 pub mod Pieces
 pub mod Digits
-pub mod Taken
 pub mod Reading
 pub mod Joined
+pub mod Behind
+pub mod Numbered
 pub mod Numerals
 pub mod Good
 pub mod Whole

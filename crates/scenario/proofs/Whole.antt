@@ -1,7 +1,7 @@
 -- One line more of a text: the fault of what is left stays, and fewer lines are left.
-use Rattle.std.proofs.Common.{◌≡◌, ℕ, ◌<◌, ◌≤◌, Bool, true, false, cond, leb, List, length, drop, Some, None, Ok, Err, Option, Result, sym, refl, ap, ◌∙◌, arith}
+use Rattle.std.proofs.Common.{◌≡◌, ℕ, ◌<◌, ◌≤◌, Bool, true, false, cond, leb, List, length, drop, Some, None, Ok, Err, Option, Result, is_some, sym, refl, ap, ◌∙◌, arith}
 use native.Mathlib.Decide.{dec_le}
-use Rattle.std.proofs.lemmas.Bool.{leb-true, le-leb}
+use Rattle.std.proofs.lemmas.Bool.{leb-true, le-leb, false≢true}
 use Rattle.output.specs.declared.fault.Fault.{Fault}
 use Rattle.output.specs.declared.fault.ReaderRefusal.{ReaderRefusal}
 use Rattle.output.specs.declared.fault.ReaderRefusal.TheVariants.{Order}
@@ -47,13 +47,7 @@ module _ (text : List ℕ) (s : Place) (i : Item) (e : next text s ≡ Ok (Some 
   pub fewer : length (lines_after (Ok (Some i)) (lines (drop s.at text))) < length (lines (drop s.at text))
   fewer = rw (lines_at text s.at inside) (omega arith)
 
--- the same of a reader's answer r
-module _ (text : List ℕ) (s : Place) (r : Result (Option Line) Fault) (o : Option Line) (l : Line) (ok : r ≡ Ok o) (some : o ≡ Some l) (is : shown_next r ≡ next text s) where
-  item : shown_next r ≡ Ok (Some (shown l))
-  item = rw (ok, some)
-
-  pub answer_same : fault_from text (moved text s (shown_next r)) ≡ fault_from text s
-  answer_same = rw item (fault_same text s (shown l) (sym is ∙ item))
-
-  pub answer_fewer : length (lines_after (shown_next r) (lines (drop s.at text))) < length (lines (drop s.at text))
-  answer_fewer = rw item (fewer text s (shown l) (sym is ∙ item))
+-- the same of a reader's answer that is a line
+pub answer_same : (text : List ℕ) (s : Place) (o : Option Line) → is_some o ≡ true → shown_next (Ok o) ≡ next text s → fault_from text (moved text s (shown_next (Ok o))) ≡ fault_from text s
+answer_same text s None some is = absurd (false≢true some)
+answer_same text s (Some l) some is = fault_same text s (shown l) (sym is)

@@ -1,7 +1,11 @@
 -- Laws of lines, fields and numbers.
-use Rattle.std.specs.Prelude.{◌≡◌, ℕ, ◌^◌, ◌<◌, Bool, true, cond, ◌≢◌, List, [], ◌∷◌, ◌++◌, Some, decimal, ◌==◌}
+use Rattle.std.specs.Prelude.{◌≡◌, ℕ, ◌^◌, ◌<◌, Bool, true, cond, ◌≢◌, List, [], ◌∷◌, ◌++◌, Option, Some, decimal, ◌==◌}
+use Rattle.std.specs.Borrow.{Bor}
+use Rattle.std.specs.Iterator.{YieldsFirstRef}
 use Rattle.std.specs.List.{AllByRecursion}
 use Rattle.output.specs.Lines.{lines, fields, spaced}
+use Rattle.scenario.specs.declared.fields.Fields.{Fields}
+use Rattle.scenario.specs.Left.{to_come, bytes, rest_behind}
 use Rattle.scenario.specs.Numbers.{value}
 
 -- no piece holds the byte
@@ -39,6 +43,10 @@ FieldsLack = (line : List ℕ) → Without 32 (fields line)
 
 abbrev pub FieldsOnly : Type 0
 FieldsOnly = (f : List ℕ) (fs : List (List ℕ)) → Without 32 (f ∷ fs) → fields (spaced (f ∷ fs)) ≡ f ∷ fs
+
+-- a field that is given leaves the line's rest behind its space
+abbrev pub FieldsRest : Type 0
+FieldsRest = (fs gs : Fields) (field : Option (Bor (List ℕ))) → YieldsFirstRef to_come fs field gs → bytes gs.rest ≡ rest_behind (bytes fs.rest)
 
 -- a number of at most nine digits reads back to itself as it is written
 abbrev pub WrittenReads : Type 0

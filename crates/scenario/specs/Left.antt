@@ -1,22 +1,16 @@
 -- The fields of a line that are still to come.
-use Rattle.std.specs.Prelude.{ℕ, ◌+◌, Bool, cond, ◌&&◌, List, [], ◌∷◌, length, drop, Some, None, Option, nat_lt}
+use Rattle.std.specs.Prelude.{ℕ, ◌+◌, List, [], ◌∷◌, length, drop, Some, None, Option, if◌then◌else◌, nat_lt}
 use Rattle.std.specs.Borrow.{Bor}
 use Rattle.scenario.specs.declared.fields.Fields.{Fields}
 use Rattle.output.specs.Lines.{fields, before}
 
--- the fields of the rest of a line, if there are more
-abbrev pub left : Bool → List ℕ → List (List ℕ)
-left more rest = cond more (fields rest) []
+-- the fields of the rest of a line; where there is no rest, none is left
+abbrev pub left : Option (Bor (List ℕ)) → List (List ℕ)
+left None = []
+left (Some rest) = fields rest.now
 
 abbrev pub to_come : Fields → List (List ℕ)
-to_come f = left f.more f.rest.now
-
--- there is another field behind the first where a space ends it
-abbrev pub more_behind : Bool → List ℕ → Bool
-more_behind more rest = more && nat_lt (length (before 32 rest)) (length rest)
-
-abbrev pub rest_behind : Bool → List ℕ → List ℕ
-rest_behind more rest = cond (more_behind more rest) (drop (length (before 32 rest) + 1) rest) rest
+to_come f = left f.rest
 
 abbrev pub first : {A : Type 0} → List A → Option A
 first [] = None
@@ -30,3 +24,8 @@ others (x ∷ xs) = xs
 abbrev pub bytes : Option (Bor (List ℕ)) → Option (List ℕ)
 bytes None = None
 bytes (Some r) = Some r.now
+
+-- the rest of a line behind its first field, if a space ends the field
+abbrev pub rest_behind : Option (List ℕ) → Option (List ℕ)
+rest_behind None = None
+rest_behind (Some rest) = if nat_lt (length (before 32 rest)) (length rest) then Some (drop (length (before 32 rest) + 1) rest) else None

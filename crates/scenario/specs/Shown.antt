@@ -1,6 +1,5 @@
 -- A line as the reader hands it out, as what it says.
-use Rattle.std.specs.Prelude.{ℕ, Bool, true, false, List, [], ◌∷◌, Some, None, Ok, Err, Option, Result}
-use Rattle.std.specs.Borrow.{Bor}
+use Rattle.std.specs.Prelude.{[], ◌∷◌, Some, None, Ok, Err, Option, Result}
 use Rattle.scenario.specs.declared.kind.Kind.TheVariants.{Scale as S, High as H, Low as L, Shared as M, Fixed as F, Ceiling as C, Arrival as A, Run as R}
 use Rattle.scenario.specs.declared.lines.Line.{Line}
 use Rattle.scenario.specs.declared.lines.Line.TheVariants.{Scale, High, Low, Shared, Fixed, Ceiling, Arrival, Run}
@@ -24,24 +23,3 @@ shown_some (Some l) = Some (shown l)
 abbrev pub shown_ok : {E : Type 0} → Result Line E → Result Item E
 shown_ok (Ok l) = Ok (shown l)
 shown_ok (Err e) = Err e
-
--- all of a list, if it has the right count
-abbrev pub all_if : Bool → List (List ℕ) → Option (List (List ℕ))
-all_if true fs = Some fs
-all_if false fs = None
-
-abbrev pub one : Option (Bor (List ℕ)) → Option (List (List ℕ))
-one None = None
-one (Some a) = Some (a.now ∷ [])
-
-abbrev pub two : Option (Bor (List ℕ) × Bor (List ℕ)) → Option (List (List ℕ))
-two None = None
-two (Some t) = Some (t.0.now ∷ t.1.now ∷ [])
-
-abbrev pub three : Option (Bor (List ℕ) × Bor (List ℕ) × Bor (List ℕ)) → Option (List (List ℕ))
-three None = None
-three (Some t) = Some (t.0.now ∷ t.1.now ∷ t.2.now ∷ [])
-
-abbrev pub four : Option (Bor (List ℕ) × Bor (List ℕ) × Bor (List ℕ) × Bor (List ℕ)) → Option (List (List ℕ))
-four None = None
-four (Some t) = Some (t.0.now ∷ t.1.now ∷ t.2.now ∷ t.3.now ∷ [])

@@ -1,5 +1,9 @@
 ghost use Rattle.std.specs.Prelude.{◌≡◌};
+ghost use Rattle.std.specs.Option.{ok_or};
+ghost use Rattle.output.specs.declared.fault.ReaderRefusal.TheVariants.{Letter};
 ghost use Rattle.scenario.specs.Kinds.{kind_of, next_phase, allowed, may_end};
+
+use output::fault::ReaderRefusal;
 
 // What a line is, as its letter says.
 #[derive(Clone, Copy)]
@@ -23,27 +27,31 @@ pub enum Phase {
     Events,
 }
 
-impl Kind {
-    // The kind whose letter is the whole field.
-    pub(crate) fn of(field: &[u8]) -> Option<Kind>
-        ensures { result ≡ kind_of field.now }
-    {
-        if field.len() != 1 {
-            return None;
-        }
-        match field[0] as char {
-            'S' => Some(Kind::Scale),
-            'H' => Some(Kind::High),
-            'L' => Some(Kind::Low),
-            'M' => Some(Kind::Shared),
-            'F' => Some(Kind::Fixed),
-            'C' => Some(Kind::Ceiling),
-            'A' => Some(Kind::Arrival),
-            'R' => Some(Kind::Run),
-            _ => None,
+// The kind whose letter is the whole field.
+impl TryFrom<&[u8]> for Kind {
+    type Error = ReaderRefusal;
+
+    ghost try_from_gives = { λ field result. result ≡ ok_or (kind_of field.now) Letter };
+
+    fn try_from(field: &[u8]) -> Result<Kind, ReaderRefusal> {
+        let [letter] = field else {
+            return Err(ReaderRefusal::Letter);
+        };
+        match *letter as char {
+            'S' => Ok(Kind::Scale),
+            'H' => Ok(Kind::High),
+            'L' => Ok(Kind::Low),
+            'M' => Ok(Kind::Shared),
+            'F' => Ok(Kind::Fixed),
+            'C' => Ok(Kind::Ceiling),
+            'A' => Ok(Kind::Arrival),
+            'R' => Ok(Kind::Run),
+            _ => Err(ReaderRefusal::Letter),
         }
     }
+}
 
+impl Kind {
     // The phase behind a line of this kind.
     pub(crate) fn next_phase(self) -> Phase
         ensures { result ≡ next_phase self }
@@ -61,12 +69,11 @@ impl Phase {
     pub(crate) fn allows(self, kind: Kind) -> bool
         ensures { result ≡ allowed self kind }
     {
-        match (self, kind) {
-            (Phase::Start, Kind::Scale) => true,
-            (Phase::Tasks, Kind::High | Kind::Low | Kind::Shared | Kind::Fixed) => true,
-            (Phase::Ruled, Kind::Ceiling | Kind::Arrival | Kind::Run) => true,
-            (Phase::Events, Kind::Arrival | Kind::Run) => true,
-            _ => false,
+        match self {
+            Phase::Start => matches!(kind, Kind::Scale),
+            Phase::Tasks => matches!(kind, Kind::High | Kind::Low | Kind::Shared | Kind::Fixed),
+            Phase::Ruled => matches!(kind, Kind::Ceiling | Kind::Arrival | Kind::Run),
+            Phase::Events => matches!(kind, Kind::Arrival | Kind::Run),
         }
     }
 
@@ -74,9 +81,6 @@ impl Phase {
     pub(crate) fn may_end(self) -> bool
         ensures { result ≡ may_end self }
     {
-        match self {
-            Phase::Start | Phase::Tasks => false,
-            Phase::Ruled | Phase::Events => true,
-        }
+        matches!(self, Phase::Ruled | Phase::Events)
     }
 }

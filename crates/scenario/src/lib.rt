@@ -9,4 +9,3 @@ pub mod number;
 pub mod place;
 mod ranges;
 pub mod reader;
-mod take;

@@ -1,12 +1,12 @@
 ghost use Rattle.std.specs.Prelude.{◌≡◌, length, if◌then◌else◌, Some, None};
 ghost use Rattle.scenario.specs.Items.{item, right_count, item_fault, judged, read};
 ghost use Rattle.scenario.specs.Left.{to_come};
+ghost use Rattle.scenario.specs.Numbers.{in_range};
 ghost use Rattle.scenario.specs.Shown.{shown, shown_some, shown_ok};
 
 use super::fields::Fields;
 use super::kind::{Kind, Phase};
 use super::ranges::numbers_fit;
-use super::take::{is_list, take_four, take_none, take_one, take_three, take_two};
 use output::fault::ReaderRefusal;
 
 // A line of the text with the fields of its numbers, each the very part of the text that it is.
@@ -57,57 +57,45 @@ impl<'a> Line<'a> {
     }
 }
 
+// Whether 1 to 32 fields are left. The 33rd tells that there are more.
+fn is_list(fields: Fields) -> bool
+    ensures { result ≡ in_range 1 32 (length (to_come fields.entry)) }
+{
+    (1..=32).contains(&fields.take(33).count())
+}
+
 // A line of this kind with these fields, if their count is right.
-fn shaped<'a>(kind: Kind, fields: Fields<'a>) -> Option<Line<'a>>
+fn shaped<'a>(kind: Kind, mut fields: Fields<'a>) -> Option<Line<'a>>
     ensures { shown_some result ≡ (if right_count kind (length (to_come fields.entry)) then Some (item kind (to_come fields.entry)) else None) }
 {
-    match kind {
-        Kind::Scale => match take_four(fields) {
-            Some((scale, total, p, q)) => Some(Line::Scale { scale, total, p, q }),
-            None => None,
+    let line = match kind {
+        Kind::Scale => Line::Scale {
+            scale: fields.next()?,
+            total: fields.next()?,
+            p: fields.next()?,
+            q: fields.next()?,
         },
-        Kind::High => match take_two(fields) {
-            Some((period, worst)) => Some(Line::High { period, worst }),
-            None => None,
+        Kind::High => Line::High {
+            period: fields.next()?,
+            worst: fields.next()?,
         },
-        Kind::Low => match take_three(fields) {
-            Some((period, worst, assured)) => Some(Line::Low {
-                period,
-                worst,
-                assured,
-            }),
-            None => None,
+        Kind::Low => Line::Low {
+            period: fields.next()?,
+            worst: fields.next()?,
+            assured: fields.next()?,
         },
-        Kind::Shared => {
-            if take_none(fields) {
-                Some(Line::Shared)
-            } else {
-                None
-            }
-        }
-        Kind::Fixed => {
-            if is_list(fields) {
-                Some(Line::Fixed(fields))
-            } else {
-                None
-            }
-        }
-        Kind::Ceiling => {
-            if is_list(fields) {
-                Some(Line::Ceiling(fields))
-            } else {
-                None
-            }
-        }
-        Kind::Arrival => match take_two(fields) {
-            Some((task, need)) => Some(Line::Arrival { task, need }),
-            None => None,
+        Kind::Shared => Line::Shared,
+        Kind::Fixed => return is_list(fields).then_some(Line::Fixed(fields)),
+        Kind::Ceiling => return is_list(fields).then_some(Line::Ceiling(fields)),
+        Kind::Arrival => Line::Arrival {
+            task: fields.next()?,
+            need: fields.next()?,
         },
-        Kind::Run => match take_one(fields) {
-            Some(ticks) => Some(Line::Run { ticks }),
-            None => None,
+        Kind::Run => Line::Run {
+            ticks: fields.next()?,
         },
-    }
+    };
+    fields.next().is_none().then_some(line)
 }
 
 // A line of this kind with these fields, or its first refusal.
@@ -117,9 +105,7 @@ fn judge<'a>(phase: Phase, kind: Kind, fields: Fields<'a>) -> Result<Line<'a>, R
     if !phase.allows(kind) {
         return Err(ReaderRefusal::Order);
     }
-    let Some(line) = shaped(kind, fields) else {
-        return Err(ReaderRefusal::Count);
-    };
+    let line = shaped(kind, fields).ok_or(ReaderRefusal::Count)?;
     if !numbers_fit(kind, fields) {
         return Err(ReaderRefusal::Number);
     }
@@ -131,11 +117,7 @@ pub(crate) fn read_line<'a>(phase: Phase, line: &'a [u8]) -> Result<Line<'a>, Re
     ensures { shown_ok result ≡ read phase line.now }
 {
     let mut fields = Fields::new(line);
-    let Some(letter) = fields.next_field() else {
-        return Err(ReaderRefusal::Letter);
-    };
-    let Some(kind) = Kind::of(letter) else {
-        return Err(ReaderRefusal::Letter);
-    };
+    let letter = fields.next().ok_or(ReaderRefusal::Letter)?;
+    let kind = Kind::try_from(letter)?;
     judge(phase, kind, fields)
 }

@@ -1,4 +1,5 @@
-ghost use Rattle.std.specs.Prelude.{◌≡◌, ◌≤◌, length};
+ghost use Rattle.std.specs.Prelude.{◌≡◌, ◌≤◌, false, length};
+ghost use Rattle.std.specs.Range.{range_inclusive_start, range_inclusive_end, range_inclusive_exhausted};
 ghost use Rattle.scenario.specs.Items.{least, most, right_value, right_numbers};
 ghost use Rattle.scenario.specs.Left.{to_come};
 ghost use Rattle.scenario.specs.Numbers.{value};
@@ -6,36 +7,25 @@ ghost use Rattle.scenario.specs.Numbers.{value};
 use super::fields::Fields;
 use super::kind::Kind;
 use super::number::number;
+use std::ops::RangeInclusive;
 
-// The least that the number at a place, from 0, of a line may be.
-fn least_at(kind: Kind, place: u32) -> u32
-    ensures { result ≡ least kind place }
+// What the number at a place, from 0, of a line may be.
+fn range_at(kind: Kind, place: usize) -> RangeInclusive<u32>
+    ensures least { range_inclusive_start result ≡ least kind place }
+    ensures most { range_inclusive_end result ≡ most kind place }
+    ensures exhausted { range_inclusive_exhausted result ≡ false }
 {
-    match kind {
-        Kind::Arrival => { if place == 1 { 1 } else { 0 } }
-        Kind::Run => 1,
-        _ => 0,
+    match (kind, place) {
+        (Kind::Arrival, 1) => 1..=100_000,
+        (Kind::Run, _) => 1..=10_000,
+        _ => 0..=999_999_999,
     }
 }
 
-// The most that it may be.
-fn most_at(kind: Kind, place: u32) -> u32
-    ensures { result ≡ most kind place }
-{
-    match kind {
-        Kind::Arrival => { if place == 1 { 100_000 } else { 999_999_999 } }
-        Kind::Run => 10_000,
-        _ => 999_999_999,
-    }
-}
-
-fn number_fits(kind: Kind, place: u32, field: &[u8]) -> bool
+fn number_fits(kind: Kind, place: usize, field: &[u8]) -> bool
     ensures { result ≡ right_value kind place (value field.now) }
 {
-    match number(field) {
-        None => false,
-        Some(n) => least_at(kind, place) <= n && n <= most_at(kind, place),
-    }
+    number(field).is_some_and(|n| range_at(kind, place).contains(&n))
 }
 
 // Whether the fields that are left are numbers, each in its range.
@@ -43,13 +33,7 @@ pub(crate) fn numbers_fit(kind: Kind, fields: Fields) -> bool
     requires { length (to_come fields) ≤ 32 }
     ensures { result ≡ right_numbers kind 0 (to_come fields.entry) }
 {
-    let mut rest = fields;
-    let mut place: u32 = 0;
-    while let Some(field) = rest.next_field() {
-        if !number_fits(kind, place, field) {
-            return false;
-        }
-        place += 1;
-    }
-    true
+    fields
+        .enumerate()
+        .all(|(place, field)| number_fits(kind, place, field))
 }

@@ -4,7 +4,7 @@ ghost use Rattle.scenario.specs.Reading.{start, next, moved, lines_after, shown_
 ghost use Rattle.scenario.specs.Readers.{text_of, place_of, lines_left};
 ghost use Rattle.scenario.specs.Whole.{text_fault};
 
-use super::fields::piece_end;
+use super::fields::before;
 use super::kind::Phase;
 use super::lines::{Line, read_line};
 use super::place::{Place, Reader};
@@ -42,29 +42,24 @@ impl<'a> Reader<'a> {
         ensures good { Good (shown_next result) }
     {
         let text = self.text;
-        let place = self.place;
-        let at = place.at;
+        let Place { at, line, phase } = self.place;
         if text.len() > 65_536 {
             return Err(ReaderRefusal::Length.at(0));
         }
         if at >= text.len() {
-            if place.phase.may_end() {
+            if phase.may_end() {
                 return Ok(None);
             }
-            return Err(ReaderRefusal::Order.at(place.line));
+            return Err(ReaderRefusal::Order.at(line));
         }
-        let end = piece_end(text, at, b'\n');
-        match read_line(place.phase, &text[at..end]) {
-            Ok(line) => {
-                self.place = Place {
-                    at: end + 1,
-                    line: place.line + 1,
-                    phase: line.kind().next_phase(),
-                };
-                Ok(Some(line))
-            }
-            Err(refusal) => Err(refusal.at(place.line)),
-        }
+        let bytes = before(&text[at..], b'\n');
+        let read = read_line(phase, bytes).map_err(|refusal| refusal.at(line))?;
+        self.place = Place {
+            at: at + bytes.len() + 1,
+            line: line + 1,
+            phase: read.kind().next_phase(),
+        };
+        Ok(Some(read))
     }
 }
 
@@ -73,6 +68,6 @@ pub fn check_text(text: &[u8]) -> Result<(), Fault>
     ensures { refusal result ≡ text_fault text.now }
 {
     let mut reader = Reader::new(text);
-    while let Some(_line) = reader.next_line()? {}
+    while reader.next_line()?.is_some() {}
     Ok(())
 }

@@ -4,8 +4,8 @@ use Rattle.scenario.specs.Whole.{fault_from, text_fault}
 use Rattle.scenario.proofs.reader.check_text.Given as goal
 
 -- the fault of what is left is that of the whole
-abbrev pub invariant-loop-line : goal.invariant-loop-line
-invariant-loop-line l = (text_of l.reader ≡ l.text) × (fault_from l.text (place_of l.reader) ≡ text_fault l.text)
+abbrev pub invariant-loop : goal.invariant-loop
+invariant-loop l = (text_of l.reader ≡ l.text) × (fault_from l.text (place_of l.reader) ≡ text_fault l.text)
 
-abbrev pub decreases-loop-line : goal.decreases-loop-line
-decreases-loop-line l = length (lines_left l.reader)
+abbrev pub decreases-loop : goal.decreases-loop
+decreases-loop l = length (lines_left l.reader)
