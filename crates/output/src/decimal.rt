@@ -3,7 +3,7 @@ ghost use Rattle.output.specs.Written.{over_if, behind_if};
 
 use std::marker::Model;
 
-// The digits of a number in base ten, which end where the array ends.
+// The digits of a number in base ten, which end where the array ends. They are made by hand: what `write!` writes is promised only where it answers Ok, and no contract says when it does.
 #[derive(Drop)]
 pub(crate) struct Digits {
     bytes: [u8; 20],
@@ -28,6 +28,7 @@ impl Digits {
         let mut bytes = [0; 20];
         let mut start = 19;
         let mut rest = n;
+        // no `for`: one over the places would have an end that is never reached
         while rest >= 10 {
             bytes[start] = b'0' + (rest % 10) as u8;
             start -= 1;

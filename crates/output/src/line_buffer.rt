@@ -4,6 +4,7 @@ use super::decimal::Digits;
 use std::marker::Model;
 
 // A line as it is made, field by field. No line is longer than 40 bytes.
+// No `write!` into it: what that writes is promised only where it answers Ok, and no contract says when it does.
 #[derive(Drop)]
 pub(crate) struct LineBuffer {
     bytes: [u8; 40],

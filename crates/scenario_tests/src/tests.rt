@@ -6,202 +6,166 @@ use scenario::reader::check_text;
 use std::test::Fail;
 use tasks::units::Ticks;
 
-// A text with the number and the line of its fault; 0 and 0 where it has none.
+// A text with the number and the line of its fault, if it has one.
 #[derive(Clone, Copy)]
 struct Case {
     text: &'static [u8],
-    number: u8,
-    line: u32,
+    fault: Option<(u8, u32)>,
 }
 
 static CASES: [Case; 33] = [
     // 33 tasks are the table's business, not the reader's
     Case {
         text: b"S 10 2 2 5\nH 9 9\nH 9 9\nH 9 9\nH 9 9\nH 9 9\nH 9 9\nH 9 9\nH 9 9\nH 9 9\nH 9 9\nH 9 9\nH 9 9\nH 9 9\nH 9 9\nH 9 9\nH 9 9\nH 9 9\nH 9 9\nH 9 9\nH 9 9\nH 9 9\nH 9 9\nH 9 9\nH 9 9\nH 9 9\nH 9 9\nH 9 9\nH 9 9\nH 9 9\nH 9 9\nH 9 9\nH 9 9\nH 9 9\nM",
-        number: 0,
-        line: 0,
+        fault: None,
     },
     Case {
         text: b"S 10 2 2 5\nH 9 9\nH 9 9\nH 9 9\nH 9 9\nH 9 9\nH 9 9\nH 9 9\nH 9 9\nH 9 9\nH 9 9\nH 9 9\nH 9 9\nH 9 9\nH 9 9\nH 9 9\nH 9 9\nH 9 9\nH 9 9\nH 9 9\nH 9 9\nH 9 9\nH 9 9\nH 9 9\nH 9 9\nH 9 9\nH 9 9\nH 9 9\nH 9 9\nH 9 9\nH 9 9\nH 9 9\nH 9 9\nH 9 9\nF 0 0 0 0 0 0 0 0 0 0 0 0 0 0 0 0 0 0 0 0 0 0 0 0 0 0 0 0 0 0 0 0 0",
-        number: 21,
-        line: 35,
+        fault: Some((21, 35)),
     },
     Case {
         text: b"",
-        number: 23,
-        line: 1,
+        fault: Some((23, 1)),
     },
     Case {
         text: b"\n",
-        number: 20,
-        line: 1,
+        fault: Some((20, 1)),
     },
     Case {
         text: b" ",
-        number: 20,
-        line: 1,
+        fault: Some((20, 1)),
     },
     Case {
         text: b"SS 10 2 2 5",
-        number: 20,
-        line: 1,
+        fault: Some((20, 1)),
     },
     Case {
         text: b"M x",
-        number: 23,
-        line: 1,
+        fault: Some((23, 1)),
     },
     Case {
         text: b"S 10 2 2",
-        number: 21,
-        line: 1,
+        fault: Some((21, 1)),
     },
     Case {
         text: b"S 10 2 2 5 6",
-        number: 21,
-        line: 1,
+        fault: Some((21, 1)),
     },
     Case {
         text: b"S 1000000000 2 2 5",
-        number: 22,
-        line: 1,
+        fault: Some((22, 1)),
     },
     Case {
         text: b"S 01 2 2 5",
-        number: 22,
-        line: 1,
+        fault: Some((22, 1)),
     },
     Case {
         text: b"S 10 2 2 5",
-        number: 23,
-        line: 2,
+        fault: Some((23, 2)),
     },
     Case {
         text: b"S 10 2 2 5\n",
-        number: 23,
-        line: 2,
+        fault: Some((23, 2)),
     },
     Case {
         text: b"S 10 2 2 5\nS 10 2 2 5\nM",
-        number: 23,
-        line: 2,
+        fault: Some((23, 2)),
     },
     Case {
         text: b"S 10 2 2 5\nL 10 5\nM",
-        number: 21,
-        line: 2,
+        fault: Some((21, 2)),
     },
     Case {
         text: b"S 10 2 2 5\nM \n",
-        number: 21,
-        line: 2,
+        fault: Some((21, 2)),
     },
     Case {
         text: b"S 10 2 2 5\nF",
-        number: 21,
-        line: 2,
+        fault: Some((21, 2)),
     },
     Case {
         text: b"S 10 2 2 5\nF ",
-        number: 22,
-        line: 2,
+        fault: Some((22, 2)),
     },
     Case {
         text: b"S 10 2 2 5\nM\n\nR 1",
-        number: 20,
-        line: 3,
+        fault: Some((20, 3)),
     },
     Case {
         text: b"S 10 2 2 5\nM\nR 1 ",
-        number: 21,
-        line: 3,
+        fault: Some((21, 3)),
     },
     Case {
         text: b"S 10 2 2 5\nM\nR 1\r\n",
-        number: 22,
-        line: 3,
+        fault: Some((22, 3)),
     },
     Case {
         text: b"S 10 2 2 5\nM\nR 0",
-        number: 22,
-        line: 3,
+        fault: Some((22, 3)),
     },
     Case {
         text: b"S 10 2 2 5\nM\nR 10001",
-        number: 22,
-        line: 3,
+        fault: Some((22, 3)),
     },
     Case {
         text: b"S 10 2 2 5\nM\nA 1 0",
-        number: 22,
-        line: 3,
+        fault: Some((22, 3)),
     },
     Case {
         text: b"S 10 2 2 5\nM\nA 1 100001",
-        number: 22,
-        line: 3,
+        fault: Some((22, 3)),
     },
     Case {
         text: b"S 10 2 2 5\nM\nH 10 4",
-        number: 23,
-        line: 3,
+        fault: Some((23, 3)),
     },
     Case {
         text: b"S 10 2 2 5\nM\nC 1\nC 1",
-        number: 23,
-        line: 4,
+        fault: Some((23, 4)),
     },
     Case {
         text: b"S 10 2 2 5\nM\nR 1\nC 1",
-        number: 23,
-        line: 4,
+        fault: Some((23, 4)),
     },
     Case {
         text: b"S 10 2 2 5\nM",
-        number: 0,
-        line: 0,
+        fault: None,
     },
     Case {
         text: b"S 10 2 2 5\nL 10 5 0\nH 10 4\nH 10 4\nM\nA 1 2\nA 2 1\nA 3 2\nR 6\n",
-        number: 0,
-        line: 0,
+        fault: None,
     },
     Case {
         text: b"S 10 2 2 5\nH 10 4\nF 0 1 1\nC 3 999999999\nA 0 100000\nR 10000",
-        number: 0,
-        line: 0,
+        fault: None,
     },
     Case {
         text: b"S 1 1 1 1\nF 1 2 3 4 5 6 7 8 9 10 11 12 13 14 15 16 17 18 19 20 21 22 23 24 25 26 27 28 29 30 31 32",
-        number: 0,
-        line: 0,
+        fault: None,
     },
     Case {
         text: b"S 1 1 1 1\nF 1 2 3 4 5 6 7 8 9 10 11 12 13 14 15 16 17 18 19 20 21 22 23 24 25 26 27 28 29 30 31 32 33",
-        number: 21,
-        line: 2,
+        fault: Some((21, 2)),
     },
 ];
 
-fn fault_of(text: &[u8]) -> (u8, u32) {
-    match check_text(text) {
-        Ok(()) => (0, 0),
-        Err(fault) => (fault.number, fault.line),
-    }
+fn fault_of(text: &[u8]) -> Option<(u8, u32)> {
+    let fault = check_text(text).err()?;
+    Some((fault.number, fault.line))
 }
 
 #[test]
 fn texts(rt: HostRuntime) {
     for case in &CASES {
-        assert_eq!(rt; fault_of(case.text), (case.number, case.line));
+        assert_eq!(rt; fault_of(case.text), case.fault);
     }
 }
 
 #[test]
 fn lengths(rt: HostRuntime) {
     let text = [b'\n'; 65_537];
-    assert_eq!(rt; fault_of(&text), (24, 0));
-    assert_eq!(rt; fault_of(&text[0..65_536]), (20, 1));
+    assert_eq!(rt; fault_of(&text), Some((24, 0)));
+    assert_eq!(rt; fault_of(&text[..65_536]), Some((20, 1)));
 }
 
 // The fault of a text of this byte.
@@ -227,8 +191,8 @@ fn all_bytes(rt: HostRuntime) {
     for byte in 0..=255u8 {
         let mut text = *b"S 10 1 1 1";
         text[3] = byte;
-        assert_eq!(rt; fault_of(&text[3..4]), alone(byte));
-        assert_eq!(rt; fault_of(&text), behind(byte));
+        assert_eq!(rt; fault_of(&text[3..4]), Some(alone(byte)));
+        assert_eq!(rt; fault_of(&text), Some(behind(byte)));
     }
 }
 
@@ -303,9 +267,8 @@ fn printed(rt: HostRuntime) -> Result<(), Fail> {
 #[test]
 fn short_buffers(rt: HostRuntime) {
     let mut out = [b'#'; 39];
-    if let Err(refusal) = PRINTS[0].line.write(&mut out) {
-        assert_eq!(rt; refusal.number(), 25);
-    }
+    let written = PRINTS[0].line.write(&mut out);
+    assert_eq!(rt; written.map_err(|refusal| refusal.number()), Err(25));
     assert_eq!(rt; &out, &[b'#'; 39]);
     assert_eq!(rt; write_number(1_234, &mut out, 36), None);
     assert_eq!(rt; write_number(1_234, &mut out, 35), Some(39));
