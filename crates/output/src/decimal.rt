@@ -21,10 +21,10 @@ impl Model for Digits {
     ghost invariant = { λ d. d.start ≤ 20 };
 }
 
-impl Digits {
-    pub(crate) fn of(n: u64) -> Digits
-        ensures { result ≡ decimal n }
-    {
+impl From<u64> for Digits {
+    ghost from_gives = { λ n digits. digits ≡ decimal n };
+
+    fn from(n: u64) -> Digits {
         let mut bytes = [0; 20];
         let mut start = 19;
         let mut rest = n;
@@ -37,7 +37,9 @@ impl Digits {
         bytes[start] = b'0' + rest as u8;
         Digits { bytes, start }
     }
+}
 
+impl Digits {
     pub(crate) fn as_slice(&self) -> &[u8]
         ensures { result.now ≡ self.now }
     {
@@ -50,7 +52,7 @@ pub fn write_number(n: u64, out: &mut [u8], at: usize) -> Option<usize>
     ensures behind { result ≡ behind_if at (decimal n) out.old }
     ensures over { out.new ≡ over_if at (decimal n) out.old }
 {
-    let digits = Digits::of(n);
+    let digits = Digits::from(n);
     let digits = digits.as_slice();
     let end = at.checked_add(digits.len())?;
     if end > out.len() {

@@ -55,7 +55,7 @@ impl LineBuffer {
         requires { length self.old + length (decimal n) < 40 }
         ensures { self.new ≡ self.old ++ (decimal n ++ (end ∷ [])) }
     {
-        self.field(Digits::of(n).as_slice(), end);
+        self.field(Digits::from(n).as_slice(), end);
     }
 
     pub(crate) fn as_slice(&self) -> &[u8]

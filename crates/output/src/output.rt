@@ -124,11 +124,11 @@ fn fault_line(fault: Fault) -> LineBuffer
     line
 }
 
-impl OutputLine {
-    fn line(&self) -> LineBuffer
-        ensures { result ≡ line_of self.now }
-    {
-        match *self {
+impl From<OutputLine> for LineBuffer {
+    ghost from_gives = { λ line bytes. bytes ≡ line_of line };
+
+    fn from(line: OutputLine) -> LineBuffer {
+        match line {
             OutputLine::Arrived { clock, task } => event_line(clock, b'A', task),
             OutputLine::Refused { clock, number } => event_line(clock, b'!', u32::from(number)),
             OutputLine::Switched { clock, dropped } => event_line(clock, b'X', dropped),
@@ -141,7 +141,9 @@ impl OutputLine {
             OutputLine::Faulted(fault) => fault_line(fault),
         }
     }
+}
 
+impl OutputLine {
     // Writes the line at the start of the buffer, and answers its length. A buffer under 40 bytes is refused and stays as it was.
     pub fn write(&self, out: &mut [u8]) -> Result<usize, WriteRefusal>
         ensures length { result ≡ written_length self.now out.old }
@@ -151,7 +153,7 @@ impl OutputLine {
         if out.len() < 40 {
             return Err(WriteRefusal::Short);
         }
-        let line = self.line();
+        let line = LineBuffer::from(*self);
         let bytes = line.as_slice();
         out[..bytes.len()].copy_from_slice(bytes);
         Ok(bytes.len())

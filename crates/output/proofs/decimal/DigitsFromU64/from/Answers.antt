@@ -2,7 +2,7 @@ use Rattle.std.proofs.Common.{◌≡◌, ℕ, ◌+◌, ◌-◌, ◌/◌, ◌%◌
 use Rattle.std.proofs.lemmas.Fmt.{decimal_step, decimal_digit, decimal_nonempty}
 use Rattle.std.proofs.lemmas.List.{drop-set}
 use Rattle.output.proofs.Widths.{length_of_u64}
-use Rattle.output.proofs.decimal.Digits.of.Goals as goal
+use Rattle.output.proofs.decimal.DigitsFromU64.from.Goals as goal
 
 -- one more digit in front of those that stand in their places
 in_front : (ds ks xs : List ℕ) (d i : ℕ) → i < length xs → ds ≡ (ks ++ (d ∷ [])) ++ drop (i + 1) xs → ds ≡ ks ++ drop i (set xs i d)

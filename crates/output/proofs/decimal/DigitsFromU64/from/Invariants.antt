@@ -1,5 +1,5 @@
 use Rattle.std.proofs.Common.{◌≡◌, ◌+◌, ◌≤◌, ◌++◌, length, drop, decimal}
-use Rattle.output.proofs.decimal.Digits.of.Given as goal
+use Rattle.output.proofs.decimal.DigitsFromU64.from.Given as goal
 
 -- the digits behind those of what is left stand in their places
 abbrev pub invariant-loop-rest : goal.invariant-loop-rest
