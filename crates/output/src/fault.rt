@@ -24,7 +24,7 @@ pub enum Layer {
     Rule,
 }
 
-// Where and why a scenario stops. Line 0 is the text as a whole.
+// Where and why a scenario stops. Line 0 is the text as a whole: lines count from 1, and 0 is what is printed for it.
 #[derive(Clone, Copy, PartialEq, Eq, Debug)]
 pub struct Fault {
     pub line: u32,
