@@ -165,7 +165,7 @@ fn texts(rt: HostRuntime) {
 fn lengths(rt: HostRuntime) {
     let text = [b'\n'; 65_537];
     assert_eq!(rt; fault_of(&text), Some((24, 0)));
-    assert_eq!(rt; fault_of(&text[..65_536]), Some((20, 1)));
+    assert_eq!(rt; fault_of(&text[0..65_536]), Some((20, 1)));
 }
 
 // The fault of a text of this byte.
