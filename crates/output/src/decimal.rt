@@ -1,35 +1,50 @@
-ghost use Rattle.std.specs.Prelude.{◌≡◌, ◌+◌, ◌≤◌, cond, length, decimal};
-ghost use Rattle.output.specs.Written.{over, over_if, behind_if};
+ghost use Rattle.std.specs.Prelude.{◌≡◌, length, decimal};
+ghost use Rattle.output.specs.Written.{over_if, behind_if};
 
-// How many digits a number has in base ten.
-fn digit_count(n: u64) -> usize
-    ensures { result ≡ length (decimal n) }
-{
-    let mut rest = n;
-    let mut count: usize = 1;
-    while rest >= 10 {
-        rest /= 10;
-        count += 1;
-    }
-    count
+use std::marker::Model;
+
+// The digits of a number in base ten, which end where the array ends. They are made by hand: what `write!` writes is promised only where it answers Ok, and no contract says when it does.
+#[derive(Drop)]
+pub(crate) struct Digits {
+    bytes: [u8; 20],
+    start: usize,
 }
 
-// Writes a number in base ten at a place with room for it, and answers the place behind it.
-pub(crate) fn put_number(n: u64, out: &mut [u8], at: usize) -> usize
-    requires { at + length (decimal n) ≤ length out.old }
-    ensures behind { result ≡ at + length (decimal n) }
-    ensures over { out.new ≡ over at (decimal n) out.old }
-{
-    let behind = at + digit_count(n);
-    let mut end = behind;
-    let mut rest = n;
-    while rest >= 10 {
-        end -= 1;
-        out[end] = b'0' + (rest % 10) as u8;
-        rest /= 10;
+// Clauses see the digits.
+impl Model for Digits {
+    ghost use Rattle.std.specs.Prelude.{ℕ, ◌≤◌, List, drop};
+
+    ghost Value = { List ℕ };
+
+    ghost view = { λ d. drop d.start d.bytes };
+
+    ghost invariant = { λ d. d.start ≤ 20 };
+}
+
+impl From<u64> for Digits {
+    ghost from_gives = { λ n digits. digits ≡ decimal n };
+
+    fn from(n: u64) -> Digits {
+        let mut bytes = [0; 20];
+        let mut start = 19;
+        let mut rest = n;
+        // no `for`: one over the places would have an end that is never reached
+        while rest >= 10 {
+            bytes[start] = b'0' + (rest % 10) as u8;
+            start -= 1;
+            rest /= 10;
+        }
+        bytes[start] = b'0' + rest as u8;
+        Digits { bytes, start }
     }
-    out[at] = b'0' + rest as u8;
-    behind
+}
+
+impl Digits {
+    pub(crate) fn as_slice(&self) -> &[u8]
+        ensures { result.now ≡ self.now }
+    {
+        &self.bytes[self.start..]
+    }
 }
 
 // Writes a number in base ten at a place, and answers the place behind it. Where it does not fit, the answer is none and nothing is written.
@@ -37,8 +52,12 @@ pub fn write_number(n: u64, out: &mut [u8], at: usize) -> Option<usize>
     ensures behind { result ≡ behind_if at (decimal n) out.old }
     ensures over { out.new ≡ over_if at (decimal n) out.old }
 {
-    if at > out.len() || out.len() - at < digit_count(n) {
+    let digits = Digits::from(n);
+    let digits = digits.as_slice();
+    let end = at.checked_add(digits.len())?;
+    if end > out.len() {
         return None;
     }
-    Some(put_number(n, out, at))
+    out[at..end].copy_from_slice(digits);
+    Some(end)
 }

@@ -24,16 +24,17 @@ pub enum Layer {
     Rule,
 }
 
-// Where and why a scenario stops. Line 0 is the text as a whole.
+// Where and why a scenario stops. Line 0 is the text as a whole: lines count from 1, and 0 is what is printed for it.
 #[derive(Clone, Copy, PartialEq, Eq, Debug)]
 pub struct Fault {
     pub line: u32,
     pub layer: Layer,
+    // any byte and no enum of refusals: those of tables and rules are known to the crates above, and a rule of another crate may add to them
     pub number: u8,
 }
 
 impl ReaderRefusal {
-    // The refusal's number.
+    // The refusal's number. A method, as each refusal has it: `u8::from` would not say what the byte is.
     pub fn number(self) -> u8
         ensures { result ≡ number_of self }
     {
@@ -46,7 +47,7 @@ impl ReaderRefusal {
         }
     }
 
-    // The fault on the given line.
+    // The fault on the given line. A method, since no conversion takes a line beside the refusal.
     pub fn at(self, line: u32) -> Fault
         ensures { result ≡ fault_at line self }
     {

@@ -3,5 +3,5 @@
 
 pub mod decimal;
 pub mod fault;
+mod line_buffer;
 pub mod output;
-mod put;

@@ -1,8 +1,9 @@
 ghost use Rattle.std.specs.Prelude.{◌≡◌, ◌<◌, ◌≤◌, [], ◌∷◌, length, Ok, Err, decimal};
-ghost use Rattle.output.specs.Output.{refused_number, layer_letter, mode_letter, end_letter, closed, page, fault_words, written_length, written_bytes};
+ghost use Rattle.output.specs.Output.{refused_number, layer_letter, mode_letter, end_letter, closed, fault_words, line_of, written_length, written_bytes};
 
 use super::fault::{Fault, Layer};
-use super::put::{put_fault_word, put_letter, put_long, put_short};
+use super::line_buffer::LineBuffer;
+use runs::answer::{Ending, Mode};
 use tasks::units::Ticks;
 
 // Why a line was not written.
@@ -12,31 +13,15 @@ pub enum WriteRefusal {
     Short,
 }
 
-// The mode in which a tick ran.
-#[derive(Clone, Copy)]
-pub enum ModeMark {
-    Low,
-    High,
-}
-
-// How a tick's job ended, if it did: as done, at its limit, or cut short.
-#[derive(Clone, Copy)]
-pub enum EndMark {
-    Done,
-    Limit,
-    Short,
-    Open,
-}
-
 // What a run prints.
-#[derive(Clone, Copy)]
+#[derive(Clone, Copy, PartialEq, Eq, Debug)]
 pub enum OutputLine {
     // an accepted arrival
     Arrived {
         clock: Ticks,
         task: u32,
     },
-    // a refused one, with the refusal's number
+    // a refused one, with the refusal's number: any byte and no enum, so that `write` asks no more of its caller
     Refused {
         clock: Ticks,
         number: u8,
@@ -46,18 +31,18 @@ pub enum OutputLine {
         clock: Ticks,
         dropped: u32,
     },
-    // a tick; task 0 is idle
+    // a tick, with the task that ran, if it was not idle, and how its job ended, if it did
     Ticked {
         clock: Ticks,
-        task: u32,
-        mode: ModeMark,
-        ending: EndMark,
+        task: Option<u32>,
+        mode: Mode,
+        ending: Option<Ending>,
     },
     Faulted(Fault),
 }
 
 impl WriteRefusal {
-    // The refusal's number.
+    // The refusal's number, by a method as each refusal has it.
     pub fn number(self) -> u8
         ensures { result ≡ refused_number self }
     {
@@ -68,8 +53,8 @@ impl WriteRefusal {
 }
 
 impl Layer {
-    // The layer's letter.
-    pub(crate) fn letter(self) -> u8
+    // The layer's letter. A method, since `u8::from` would not say what the byte is.
+    fn letter(self) -> u8
         ensures { result ≡ layer_letter self }
     {
         match self {
@@ -80,67 +65,82 @@ impl Layer {
     }
 }
 
-impl ModeMark {
-    // The mode's letter.
-    pub(crate) fn letter(self) -> u8
-        ensures { result ≡ mode_letter self }
-    {
-        match self {
-            ModeMark::Low => b'l',
-            ModeMark::High => b'h',
-        }
+// The letters of a mode and of an ending are functions, since their types stand in another crate.
+
+fn mode_letter(mode: Mode) -> u8
+    ensures { result ≡ mode_letter mode }
+{
+    match mode {
+        Mode::Low => b'l',
+        Mode::High => b'h',
     }
 }
 
-impl EndMark {
-    // The ending's letter.
-    pub(crate) fn letter(self) -> u8
-        ensures { result ≡ end_letter self }
-    {
-        match self {
-            EndMark::Done => b'd',
-            EndMark::Limit => b'c',
-            EndMark::Short => b's',
-            EndMark::Open => b'-',
-        }
+fn end_letter(ending: Option<Ending>) -> u8
+    ensures { result ≡ end_letter ending }
+{
+    match ending {
+        Some(Ending::Done) => b'd',
+        Some(Ending::Limit) => b'c',
+        Some(Ending::Short) => b's',
+        None => b'-',
     }
 }
 
 // A clock, a letter and a number.
-fn put_event(clock: Ticks, letter: u8, number: u32, out: &mut [u8]) -> usize
-    requires { 40 ≤ length out.old }
-    ensures behind { result ≡ length (closed (decimal clock.0 ∷ (letter ∷ []) ∷ decimal number ∷ [])) }
-    ensures page { out.new ≡ page (closed (decimal clock.0 ∷ (letter ∷ []) ∷ decimal number ∷ [])) out.old }
-    ensures short { result ≤ 40 }
+#[tactic(auto, using(crate::proofs::Widths::widths))]
+fn event_line(clock: Ticks, letter: u8, number: u32) -> LineBuffer
+    ensures { result ≡ closed (decimal clock.0 ∷ (letter ∷ []) ∷ decimal number ∷ []) }
 {
-    let at = put_long(clock.0, b' ', out, 0);
-    let at = put_letter(letter, b' ', out, at);
-    put_short(number, b'\n', out, at)
+    let mut line = LineBuffer::new();
+    line.number(clock.0, b' ');
+    line.field(&[letter], b' ');
+    line.number(u64::from(number), b'\n');
+    line
 }
 
-// A clock, a task and two letters.
-fn put_tick(clock: Ticks, task: u32, mode: u8, ending: u8, out: &mut [u8]) -> usize
-    requires { 40 ≤ length out.old }
-    ensures behind { result ≡ length (closed (decimal clock.0 ∷ decimal task ∷ (mode ∷ []) ∷ (ending ∷ []) ∷ [])) }
-    ensures page { out.new ≡ page (closed (decimal clock.0 ∷ decimal task ∷ (mode ∷ []) ∷ (ending ∷ []) ∷ [])) out.old }
-    ensures short { result ≤ 40 }
+// A tick. An idle one is written with task 0.
+#[tactic(auto, using(crate::proofs::Widths::widths))]
+fn tick_line(clock: Ticks, task: Option<u32>, mode: Mode, ending: Option<Ending>) -> LineBuffer
+    ensures { result ≡ line_of (OutputLine.Ticked clock task mode ending) }
 {
-    let at = put_long(clock.0, b' ', out, 0);
-    let at = put_short(task, b' ', out, at);
-    let at = put_letter(mode, b' ', out, at);
-    put_letter(ending, b'\n', out, at)
+    let mut line = LineBuffer::new();
+    line.number(clock.0, b' ');
+    line.number(u64::from(task.unwrap_or(0)), b' ');
+    line.field(&[mode_letter(mode)], b' ');
+    line.field(&[end_letter(ending)], b'\n');
+    line
 }
 
-fn put_fault(fault: Fault, out: &mut [u8]) -> usize
-    requires { 40 ≤ length out.old }
-    ensures behind { result ≡ length (closed (fault_words fault)) }
-    ensures page { out.new ≡ page (closed (fault_words fault)) out.old }
-    ensures short { result ≤ 40 }
+#[tactic(auto, using(crate::proofs::Widths::widths))]
+fn fault_line(fault: Fault) -> LineBuffer
+    ensures { result ≡ closed (fault_words fault) }
 {
-    let at = put_fault_word(out);
-    let at = put_short(fault.line, b' ', out, at);
-    let at = put_letter(fault.layer.letter(), b' ', out, at);
-    put_short(fault.number as u32, b'\n', out, at)
+    let mut line = LineBuffer::new();
+    line.field(b"fault", b' ');
+    line.number(u64::from(fault.line), b' ');
+    line.field(&[fault.layer.letter()], b' ');
+    line.number(u64::from(fault.number), b'\n');
+    line
+}
+
+impl From<OutputLine> for LineBuffer {
+    ghost from_gives = { λ line bytes. bytes ≡ line_of line };
+
+    fn from(line: OutputLine) -> LineBuffer {
+        match line {
+            OutputLine::Arrived { clock, task } => event_line(clock, b'A', task),
+            OutputLine::Refused { clock, number } => event_line(clock, b'!', u32::from(number)),
+            OutputLine::Switched { clock, dropped } => event_line(clock, b'X', dropped),
+            OutputLine::Ticked {
+                clock,
+                task,
+                mode,
+                ending,
+            } => tick_line(clock, task, mode, ending),
+            OutputLine::Faulted(fault) => fault_line(fault),
+        }
+    }
 }
 
 impl OutputLine {
@@ -153,18 +153,9 @@ impl OutputLine {
         if out.len() < 40 {
             return Err(WriteRefusal::Short);
         }
-        let length = match *self {
-            OutputLine::Arrived { clock, task } => put_event(clock, b'A', task, out),
-            OutputLine::Refused { clock, number } => put_event(clock, b'!', number as u32, out),
-            OutputLine::Switched { clock, dropped } => put_event(clock, b'X', dropped, out),
-            OutputLine::Ticked {
-                clock,
-                task,
-                mode,
-                ending,
-            } => put_tick(clock, task, mode.letter(), ending.letter(), out),
-            OutputLine::Faulted(fault) => put_fault(fault, out),
-        };
-        Ok(length)
+        let line = LineBuffer::from(*self);
+        let bytes = line.as_slice();
+        out[..bytes.len()].copy_from_slice(bytes);
+        Ok(bytes.len())
     }
 }

@@ -1,6 +1,7 @@
 use output::decimal::write_number;
 use output::fault::{Fault, Layer};
-use output::output::{EndMark, ModeMark, OutputLine};
+use output::output::OutputLine;
+use runs::answer::{Ending, Mode};
 use scenario::reader::check_text;
 use std::test::Fail;
 use tasks::units::Ticks;
@@ -227,18 +228,18 @@ static PRINTS: [Print; 6] = [
     Print {
         line: OutputLine::Ticked {
             clock: Ticks(2),
-            task: 3,
-            mode: ModeMark::High,
-            ending: EndMark::Done,
+            task: Some(3),
+            mode: Mode::High,
+            ending: Some(Ending::Done),
         },
         text: *b"2 3 h d\n################################",
     },
     Print {
         line: OutputLine::Ticked {
             clock: Ticks(18_446_744_073_709_551_615),
-            task: 0,
-            mode: ModeMark::Low,
-            ending: EndMark::Open,
+            task: None,
+            mode: Mode::Low,
+            ending: None,
         },
         text: *b"18446744073709551615 0 l -\n#############",
     },
@@ -266,9 +267,8 @@ fn printed(rt: HostRuntime) -> Result<(), Fail> {
 #[test]
 fn short_buffers(rt: HostRuntime) {
     let mut out = [b'#'; 39];
-    if let Err(refusal) = PRINTS[0].line.write(&mut out) {
-        assert_eq!(rt; refusal.number(), 25);
-    }
+    let written = PRINTS[0].line.write(&mut out);
+    assert_eq!(rt; written.map_err(|refusal| refusal.number()), Err(25));
     assert_eq!(rt; &out, &[b'#'; 39]);
     assert_eq!(rt; write_number(1_234, &mut out, 36), None);
     assert_eq!(rt; write_number(1_234, &mut out, 35), Some(39));

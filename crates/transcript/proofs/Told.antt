@@ -1,12 +1,12 @@
 -- The ages in the printed lines are those of a produced log.
 use Rattle.std.proofs.Common.{◌≡◌, ℕ, ◌+◌, ◌<◌, Bool, true, false, cond, ◌&&◌, ◌||◌, eqb, List, [], ◌∷◌, ◌++◌, Some, None, Ok, Err, Option, Result, sym, refl, ap, ◌∙◌, arith}
+use Rattle.std.proofs.Math.Bool.{and-false}
 use mathlib.Core.List.{reverse_aux}
 use Rattle.table.specs.Accepted.{Accepted}
 use Rattle.table.specs.Verdict.{Draft}
 use Rattle.order.specs.Ties.{by_number}
 use Rattle.runs.specs.declared.answer.Answer.{Answer}
 use Rattle.runs.specs.declared.answer.Ending.{Ending}
-use Rattle.runs.specs.declared.answer.Ending.TheVariants.{Done, Limit, Short}
 use Rattle.runs.specs.declared.answer.Job.{Job}
 use Rattle.runs.specs.declared.answer.Mode.{Mode}
 use Rattle.runs.specs.declared.call.Mark.{Mark}
@@ -28,9 +28,10 @@ use Rattle.runs.proofs.Keeps.{none≢some}
 use Rattle.runs.proofs.Ties.{Tie, produced_tied, in_none}
 use Rattle.output.specs.declared.output.OutputLine.{OutputLine}
 use Rattle.output.specs.declared.output.OutputLine.TheVariants.{Switched}
-use Rattle.transcript.specs.Ages.{is_ending, shown_age, written_period}
+use Rattle.output.specs.Output.{task_number}
+use Rattle.transcript.specs.Ages.{shown_age, written_period}
 use Rattle.transcript.specs.Policies.{Policy, at_rest}
-use Rattle.transcript.specs.Shows.{Show, new_show, arriving, after_arriving, arrival_line, mark, ticking, after_ticking, end_mark, task_number, listed, tick_line, answer_lines}
+use Rattle.transcript.specs.Shows.{Show, new_show, arriving, after_arriving, arrival_line, mark, ticking, after_ticking, listed, tick_line, answer_lines}
 use Rattle.transcript.proofs.Lawfully.{Made, Holds, holds_keeps, holds_rest, tick_rule, tick_holds}
 
 -- what an answer tells
@@ -72,19 +73,9 @@ unfolding shown_age since
 arrival_told i k clock (Ok v) P log e = ap (cond (eqb k i) (Some 0)) (e ∙ sym (raised_zero (age i log)))
 arrival_told i k clock (Err x) P log e = e ∙ sym (raised_zero (age i log))
 
-ends_same : (e : Option Ending) → is_ending (end_mark e) ≡ ended e
-ends_same None = refl
-ends_same (Some Done) = refl
-ends_same (Some Limit) = refl
-ends_same (Some Short) = refl
-
-never : (b : Bool) → (b && false) ≡ false
-never true = refl
-never false = refl
-
-leaves_same : (i : ℕ) (t : Option ℕ) (e : Option Ending) → (t ≡ None → e ≡ None) → (eqb (task_number t) i && is_ending (end_mark e)) ≡ (names i t && ended e)
-leaves_same i None e h = ap (λ x. eqb 0 i && is_ending (end_mark x)) (h refl) ∙ never (eqb 0 i)
-leaves_same i (Some k) e h = ap (λ b. eqb k i && b) (ends_same e)
+leaves_same : (i : ℕ) (t : Option ℕ) (e : Option Ending) → (t ≡ None → e ≡ None) → (eqb (task_number t) i && ended e) ≡ (names i t && ended e)
+leaves_same i None e h = ap (λ x. eqb 0 i && ended x) (h refl) ∙ and-false (eqb 0 i)
+leaves_same i (Some k) e h = refl
 
 -- a switch and then a tick
 switched_step : (x y z : Bool) (o p : Option ℕ) → y ≡ z → o ≡ p → cond y None (raised_by 1 (cond x None o)) ≡ cond (x || z) None (raised_by 1 p)

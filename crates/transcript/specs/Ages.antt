@@ -1,27 +1,20 @@
 -- What a transcript shows of a task's age, read off its lines alone.
-use Rattle.std.specs.Prelude.{◌≡◌, ℕ, ◌<◌, Bool, true, false, cond, ◌&&◌, List, [], ◌∷◌, reverse, take, Some, None, Option, ◌==◌, slice_index_or}
-use Rattle.runs.specs.Logs.{raised_by}
+use Rattle.std.specs.Prelude.{◌≡◌, ℕ, ◌<◌, cond, ◌&&◌, List, [], ◌∷◌, reverse, take, Some, None, Option, ◌==◌, slice_index_or}
+use Rattle.runs.specs.Logs.{ended, raised_by}
 use Rattle.runs.specs.Masks.{in_mask}
-use Rattle.output.specs.declared.output.EndMark.{EndMark}
-use Rattle.output.specs.declared.output.EndMark.TheVariants.{Done, Limit, Short, Open}
 use Rattle.output.specs.declared.output.OutputLine.{OutputLine}
 use Rattle.output.specs.declared.output.OutputLine.TheVariants.{Arrived, Refused, Switched, Ticked, Faulted}
 use Rattle.output.specs.Lines.{lines, fields}
+use Rattle.output.specs.Output.{task_number}
 use Rattle.transcript.specs.Steps.{amount}
 use Rattle.transcript.specs.Transcripts.{transcript}
-
-abbrev pub is_ending : EndMark → Bool
-is_ending Done = true
-is_ending Limit = true
-is_ending Short = true
-is_ending Open = false
 
 -- the age of task i after one more line: it starts with an arrival of the task, each tick adds one, and it is gone once a tick ends the task or a switch drops it
 abbrev pub age_after : ℕ → OutputLine → Option ℕ → Option ℕ
 age_after i (Arrived clock k) age = cond (k == i) (Some 0) age
 age_after i (Refused clock number) age = age
 age_after i (Switched clock dropped) age = cond (in_mask dropped i) None age
-age_after i (Ticked clock k mode ending) age = cond (k == i && is_ending ending) None (raised_by 1 age)
+age_after i (Ticked clock task mode ending) age = cond (task_number task == i && ended ending) None (raised_by 1 age)
 age_after i (Faulted f) age = age
 
 -- the age of task i in printed lines, the latest first

@@ -5,10 +5,6 @@ use Rattle.table.specs.Verdict.{Draft}
 use Rattle.order.specs.Ties.{by_number}
 use Rattle.budget.specs.Meaning.{Meaning}
 use Rattle.runs.specs.declared.answer.Answer.{Answer}
-use Rattle.runs.specs.declared.answer.Ending.{Ending}
-use Rattle.runs.specs.declared.answer.Ending.TheVariants.{Done, Limit, Short}
-use Rattle.runs.specs.declared.answer.Mode.{Mode}
-use Rattle.runs.specs.declared.answer.Mode.TheVariants.{Low, High}
 use Rattle.runs.specs.declared.call.Mark.{Mark}
 use Rattle.runs.specs.declared.refusal.ArrivalRefusal.{ArrivalRefusal}
 use Rattle.runs.specs.declared.refusal.TickRefusal.{TickRefusal}
@@ -19,10 +15,6 @@ use Rattle.runs.specs.States.{State, new_state}
 use Rattle.runs.specs.Ticking.{tick, after_tick}
 use Rattle.needs.specs.Marks.{mark_of}
 use Rattle.needs.specs.Noted.{noted}
-use Rattle.output.specs.declared.output.EndMark.{EndMark}
-use Rattle.output.specs.declared.output.EndMark.TheVariants.{Done as DoneMark, Limit as LimitMark, Short as ShortMark, Open as OpenMark}
-use Rattle.output.specs.declared.output.ModeMark.{ModeMark}
-use Rattle.output.specs.declared.output.ModeMark.TheVariants.{Low as LowMark, High as HighMark}
 use Rattle.output.specs.declared.output.OutputLine.{OutputLine}
 use Rattle.output.specs.declared.output.OutputLine.TheVariants.{Arrived, Refused, Switched, Ticked}
 use Rattle.transcript.specs.Policies.{Policy, by_policy, at_rest}
@@ -79,27 +71,12 @@ after_ticking w = record {
   need = w.need;
 }
 
-abbrev pub mode_mark : Mode → ModeMark
-mode_mark Low = LowMark
-mode_mark High = HighMark
-
-abbrev pub end_mark : Option Ending → EndMark
-end_mark None = OpenMark
-end_mark (Some Done) = DoneMark
-end_mark (Some Limit) = LimitMark
-end_mark (Some Short) = ShortMark
-
--- an idle tick runs task 0
-abbrev pub task_number : Option ℕ → ℕ
-task_number None = 0
-task_number (Some i) = i
-
 -- printed before a tick that switches
 abbrev pub switch_line : Answer → Option OutputLine
 switch_line a = cond a.switched (Some (Switched a.clock a.dropped)) None
 
 abbrev pub tick_line : Answer → OutputLine
-tick_line a = Ticked a.clock (task_number a.task) (mode_mark a.mode) (end_mark a.ending)
+tick_line a = Ticked a.clock a.task a.mode a.ending
 
 abbrev pub listed : Option OutputLine → List OutputLine
 listed None = []
