@@ -1,56 +1,24 @@
 -- Masks bit by bit.
-use Rattle.std.proofs.Common.{◌≡◌, ℕ, zero, suc, ◌-◌, ◌^◌, ◌<◌, Bool, true, false, cond, not, ◌&&◌, ◌||◌, ◌≢◌, List, get_or, is_some, Some, None, Option, sym, refl, ap, ◌∙◌, arith}
-use native.Mathlib.Decide.{ℕ_discrete, dec_le}
-use lib.Bits.{bit_and, bit_or, or_lt}
-use Rattle.std.proofs.lemmas.Nat.{pow_pos, pow_below}
-use Rattle.std.proofs.lemmas.Bool.{ne_eqb, eq-eqb}
+use Rattle.std.proofs.Common.{◌≡◌, ℕ, suc, ◌-◌, ◌^◌, ◌<◌, Bool, not, ◌&&◌, List, get_or, is_some, Some, None, Option, sym, refl, ap, ◌∙◌, arith}
+use native.Mathlib.Decide.{dec_le}
+use lib.Bits.{bit_and}
 use Rattle.table.specs.Verdict.{Draft}
 use Rattle.order.specs.Bits.{bit}
-use Rattle.order.proofs.Bits.{bit_above, bit_of_and, bit_not, bit_with, bits_same}
+use Rattle.order.proofs.Bits.{bit_above, bit_of_and, bit_not, bits_same}
 use Rattle.runs.specs.declared.answer.Job.{Job}
-use Rattle.runs.specs.Masks.{mask}
+use Rattle.runs.specs.Masks.{mask, in_mask}
 use Rattle.runs.specs.Slots.{seat}
+use Rattle.runs.proofs.Masks.{mask_small, in_mask_is}
 use Rattle.runs.specs.Ticking.{drops, drops_by}
 use Rattle.dispatch.specs.Cores.{drops_at}
 
-or_false : (b : Bool) → (b || false) ≡ b
-or_false true = refl
-or_false false = refl
+mask_bit : (among : ℕ → Bool) (k : ℕ) → k < 32 → bit (mask 32 among) k ≡ among (suc k)
+unfolding bit in_mask
+mask_bit among k h = let e : k ≡ suc k - 1 = omega arith in ap (bit (mask 32 among)) e ∙ in_mask_is 32 among (suc k) (omega arith) h
 
--- the mask of a set
-
-mask_small : (n : ℕ) (among : ℕ → Bool) → mask n among < 2 ^ n
-unfolding mask
-mask_small zero among = omega (arith, pow_pos 0)
-mask_small (suc n) among = by (among (suc n)) (omega (arith, mask_small n among, pow_below n (suc n) (omega arith)))
-  where
-    by : (b : Bool) → mask n among < 2 ^ suc n → cond b (bit_or (mask n among) (2 ^ n)) (mask n among) < 2 ^ suc n
-    by true less = or_lt (suc n) (mask n among) (2 ^ n) less (pow_below n (suc n) (omega arith))
-    by false less = less
-
-mask_bit : (n : ℕ) (among : ℕ → Bool) (k : ℕ) → k < n → bit (mask n among) k ≡ among (suc k)
-unfolding mask
-mask_bit zero among k h = absurd (omega (arith, h))
-mask_bit (suc n) among k h =
-    elim (ℕ_discrete k n) [
-      | yes e ↦ rw e (own (among (suc n)))
-      | no ne ↦ other (among (suc n)) ne ∙ mask_bit n among k (omega (arith, h, ne))
-    ]
-  where
-    own : (b : Bool) → bit (cond b (bit_or (mask n among) (2 ^ n)) (mask n among)) n ≡ b
-    own true = bit_with (mask n among) n n ∙ ap (λ x. bit (mask n among) n || x) (eq-eqb n n refl) ∙ or_true (bit (mask n among) n)
-      where
-        or_true : (b : Bool) → (b || true) ≡ true
-        or_true true = refl
-        or_true false = refl
-    own false = bit_above n (mask n among) n (mask_small n among) (omega arith)
-
-    other : (b : Bool) → k ≢ n → bit (cond b (bit_or (mask n among) (2 ^ n)) (mask n among)) k ≡ bit (mask n among) k
-    other true ne = bit_with (mask n among) n k ∙ ap (λ x. bit (mask n among) k || x) (ne_eqb k n ne) ∙ or_false (bit (mask n among) k)
-    other false ne = refl
-
+-- a mask is known by its bits
 pub mask_is : (m : ℕ) (among : ℕ → Bool) → m < 2 ^ 32 → ((k : ℕ) → bit m k ≡ among (suc k)) → m ≡ mask 32 among
-mask_is m among word f = bits_same 32 m (mask 32 among) word (mask_small 32 among) (λ k h. f k ∙ sym (mask_bit 32 among k h))
+mask_is m among word f = bits_same 32 m (mask 32 among) word (mask_small 32 among) (λ k h. f k ∙ sym (mask_bit among k h))
 
 -- the jobs that a switch drops
 
