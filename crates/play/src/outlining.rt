@@ -3,6 +3,7 @@ ghost use Rattle.table.specs.Firsts.{refusal};
 ghost use Rattle.table.specs.Tables.{draft_of};
 ghost use Rattle.table.specs.Verdict.{verdict};
 ghost use Rattle.transcript.specs.Steps.{with_task};
+ghost use Rattle.play.specs.Stops.{BlamesNear};
 ghost use Rattle.play.specs.Views.{tasks_of, draft_in};
 
 use super::outline::Outline;
@@ -53,6 +54,7 @@ impl Outline {
     pub(crate) fn accept(&self) -> Result<Table, TableRefusal>
         ensures verdict { refusal result ≡ verdict (draft_in self.now) }
         ensures parts { elim result [ Ok t ↦ draft_of t ≡ draft_in self.now | Err e ↦ Unit {0} ] }
+        ensures near { BlamesNear (refusal result) }
     {
         Table::accept(self.scale, self.total, self.factor, self.kept())
     }

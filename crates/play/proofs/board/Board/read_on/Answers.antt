@@ -1,76 +1,52 @@
-use Rattle.std.proofs.Common.{◌+◌, cond, [], ◌∷◌, ◌++◌, length, Ok, sym, ap, ◌∙◌, arith}
+use Rattle.std.proofs.Common.{◌≡◌, ◌+◌, [], ◌∷◌, ◌++◌, length, Some, None, sym, refl, ap, ◌∙◌, arith}
 use Rattle.output.specs.declared.output.OutputLine.TheVariants.{Faulted}
-use Rattle.scenario.specs.Readers.{text_of, place_of, lines_left}
-use Rattle.scenario.specs.Reading.{moved, lines_after, shown_next}
-use Rattle.scenario.specs.Shown.{shown}
 use Rattle.transcript.specs.Shows.{listed}
+use Rattle.play.specs.Boards.{upcoming, turns_of}
 use Rattle.play.specs.Courses.{stage_of}
-use Rattle.play.proofs.Boarding.{rest_to_come, nothing_to_come, ends, faults, stops, leads_on, fewer_lines}
+use Rattle.play.proofs.Boarding.{rest_to_come, over_behind}
 use Rattle.play.proofs.board.Board.read_on.Goals as goal
 
-pub returns-in-Ok-carry_out : goal.returns-in-Ok-carry_out
-returns-in-Ok-carry_out c =
+pub returns-in_err-reader : goal.returns-in_err-reader
+returns-in_err-reader c =
     let x = c.args.self.now in
-    let y = c.next_line.new.self in
-    let e = c.in-Ok.ensures in
-    let text = text_of x.reader in
-    let s = place_of x.reader in
-    let stage = stage_of x.course in
-    let was = rest_to_come x.held x.over text s x.left stage c.requires.held c.requires.left c.requires.open in
-    let i = shown c.in-Some.line in
-    let n = c.line_number-number.result in
-    let numbered = c.line_number-number.ensures in
-    let item = ap (λ o. shown_next (Ok o)) (sym c.in-Some.is) ∙ e.item in
-    let less = fewer_lines text s stage i item n numbered (lines_left y) (e.lines ∙ ap (λ o. lines_after (shown_next (Ok o)) (lines_left x.reader)) c.in-Some.is) in
-    let there = e.place ∙ ap (λ o. moved text s (shown_next (Ok o))) c.in-Some.is in
+    let over = over_behind x.held x.reader x.left (stage_of x.course) (sym c.in_err-reader.ensures.value) c.requires.left ∙ ap listed c.requires.held in
+    rw c.from_residual.ensures (over, over)
+
+pub returns-in-Ok-Some : goal.returns-in-Ok-Some
+returns-in-Ok-Some c =
+    let x = c.args.self.now in
+    let r = c.in_ok-reader.reader.now in
+    let read = rw c.in-Ok-Some.field-0-is at c.in-Ok-Some.ensures in
+    let there : x.reader ≡ Some r = sym c.in_ok-reader.ensures.value in
     record {
-      same = leads_on text s stage i item n numbered c.in-Ok-carry_out.printed.line c.in-Ok-carry_out.printed.left (stage_of c.carry_out.new.self) x.over (text_of y) (place_of y) c.in-Ok-carry_out.ensures c.requires.open e.text there ∙ sym was;
-      fewer = omega (arith, less, ap (λ b. cond b 0 (length (lines_left y) + 1)) c.requires.open, ap (λ b. cond b 0 (length (lines_left x.reader) + 1)) c.requires.open);
+      same = read.same ∙ sym (rest_to_come x.held x.reader r x.left (stage_of x.course) c.requires.held there c.requires.left);
+      fewer = omega (arith, read.fewer, ap turns_of there);
     }
 
-pub returns-in-Err-carry_out : goal.returns-in-Err-carry_out
-returns-in-Err-carry_out c =
+pub returns-in-Ok-None : goal.returns-in-Ok-None
+returns-in-Ok-None c =
     let x = c.args.self.now in
-    let y = c.next_line.new.self in
-    let e = c.in-Ok.ensures in
-    let text = text_of x.reader in
-    let s = place_of x.reader in
-    let stage = stage_of x.course in
-    let was = rest_to_come x.held x.over text s x.left stage c.requires.held c.requires.left c.requires.open in
-    let i = shown c.in-Some.line in
-    let n = c.line_number-number.result in
-    let numbered = c.line_number-number.ensures in
-    let item = ap (λ o. shown_next (Ok o)) (sym c.in-Some.is) ∙ e.item in
-    let f = c.in-Err-carry_out.fault in
+    let r = c.in_ok-reader.reader.now in
+    let there : x.reader ≡ Some r = sym c.in_ok-reader.ensures.value in
+    let ended = rw c.in-Ok-None.field-0-is at c.in-Ok-None.ensures in
     record {
-      same = ap (λ ls. Faulted f ∷ ls) (nothing_to_come (text_of y) (place_of y) x.left (stage_of c.carry_out.new.self) c.requires.left) ∙ stops text s stage i item n numbered f c.in-Err-carry_out.ensures ∙ sym was;
-      fewer = omega (arith, ap (λ b. cond b 0 (length (lines_left x.reader) + 1)) c.requires.open);
-    }
-
-pub returns-in-None : goal.returns-in-None
-returns-in-None c =
-    let x = c.args.self.now in
-    let y = c.next_line.new.self in
-    let e = c.in-Ok.ensures in
-    let text = text_of x.reader in
-    let s = place_of x.reader in
-    let stage = stage_of x.course in
-    let was = rest_to_come x.held x.over text s x.left stage c.requires.held c.requires.left c.requires.open in
-    record {
-      same = ap (λ ls. listed x.held ++ ls) (nothing_to_come (text_of y) (place_of y) x.left stage c.requires.left) ∙ ap (λ o. listed o ++ []) c.requires.held ∙ ends text s stage (ap (λ o. shown_next (Ok o)) (sym c.in-None.is) ∙ e.item) ∙ sym was;
-      fewer = omega (arith, ap (λ b. cond b 0 (length (lines_left x.reader) + 1)) c.requires.open);
+      same =
+          over_behind x.held None x.left (stage_of c.carry_on.new.course) refl c.requires.left
+          ∙ ap listed c.requires.held
+          ∙ ended
+          ∙ sym (rest_to_come x.held x.reader r x.left (stage_of x.course) c.requires.held there c.requires.left);
+      fewer = omega (arith, ap turns_of there);
     }
 
 pub returns-in-Err : goal.returns-in-Err
 returns-in-Err c =
     let x = c.args.self.now in
-    let y = c.next_line.new.self in
-    let text = text_of x.reader in
-    let s = place_of x.reader in
-    let stage = stage_of x.course in
-    let was = rest_to_come x.held x.over text s x.left stage c.requires.held c.requires.left c.requires.open in
-    let f = c.in-Err.fault in
+    let r = c.in_ok-reader.reader.now in
+    let there : x.reader ≡ Some r = sym c.in_ok-reader.ensures.value in
     record {
-      same = ap (λ ls. Faulted f ∷ ls) (nothing_to_come (text_of y) (place_of y) x.left stage c.requires.left) ∙ faults text s stage f c.in-Err.ensures.item ∙ sym was;
-      fewer = omega (arith, ap (λ b. cond b 0 (length (lines_left x.reader) + 1)) c.requires.open);
+      same =
+          over_behind (Some (Faulted c.in-Err.fault)) None x.left (stage_of c.carry_on.new.course) refl c.requires.left
+          ∙ c.in-Err.ensures
+          ∙ sym (rest_to_come x.held x.reader r x.left (stage_of x.course) c.requires.held there c.requires.left);
+      fewer = omega (arith, ap turns_of there);
     }

@@ -1,10 +1,12 @@
-use Rattle.std.proofs.Common.{◌≡◌, List, length, Ok, Err, Result, subst}
+use Rattle.std.proofs.Common.{◌≡◌, List, length, Ok, Err, Result, subst, arith, length-take-le}
 use Rattle.tasks.specs.declared.refusal.TableRefusal.{TableRefusal}
 use Rattle.table.specs.declared.table.Table.{Table}
 use Rattle.tasks.specs.declared.task.Task.{Task}
 use Rattle.table.specs.Firsts.{refusal}
 use Rattle.table.specs.Tables.{draft_of}
 use Rattle.table.specs.Verdict.{drafted, verdict}
+use Rattle.play.specs.Views.{draft_in}
+use Rattle.play.proofs.Coursing.{verdict_near}
 use Rattle.play.proofs.outline.Outline.accept.Goals as goal
 
 pub returns : goal.returns
@@ -13,4 +15,9 @@ returns c =
     let r : Result Table TableRefusal = c.accept.result in
     let V : List Task → Type 0 = λ ts. refusal r ≡ verdict (drafted x.scale x.total x.factor (length ts) ts) in
     let P : List Task → Type 0 = λ ts. elim r [ Ok t ↦ draft_of t ≡ drafted x.scale x.total x.factor (length ts) ts | Err e ↦ Unit {0} ] in
-    record { verdict = subst V c.kept.ensures c.accept.ensures.verdict; parts = subst P c.kept.ensures c.accept.ensures.parts }
+    let judged = subst V c.kept.ensures c.accept.ensures.verdict in
+    record {
+      verdict = judged;
+      parts = subst P c.kept.ensures c.accept.ensures.parts;
+      near = verdict_near (draft_in x) (refusal r) (omega (arith, length-take-le x.count x.tasks (omega (arith, x.few, x.long)), x.few)) judged;
+    }
