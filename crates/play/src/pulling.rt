@@ -28,8 +28,9 @@ impl<'a> Board<'a> {
         ensures transcript { to_come result ≡ transcript text.now }
         ensures young { StaysYoung text.now }
     {
+        let reader = Reader::new(text);
         Board {
-            reader: Some(Reader::new(text)),
+            reader: Some(reader),
             course: Course::Opening,
             held: None,
             left: 0,
