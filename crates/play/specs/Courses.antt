@@ -13,11 +13,10 @@ use Rattle.play.specs.declared.course.Printed.{Printed}
 use Rattle.play.specs.declared.stop.Stop.{Stop}
 use Rattle.play.specs.Shown.{show_of}
 use Rattle.play.specs.Stops.{fault_of, IsNear}
-use Rattle.play.specs.Views.{tasks_of}
 
 abbrev pub stage_of : Course → Stage
 stage_of Opening = opening
-stage_of (Table o) = tabling o.scale o.total o.factor (tasks_of o)
+stage_of (Table o) = tabling o.scale o.total o.factor o.tasks
 stage_of (Rule u) = ruled (draft_of u.table) (policy_of_base u.rule)
 stage_of (Work w) = showing (show_of w)
 

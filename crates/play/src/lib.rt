@@ -14,4 +14,5 @@ mod show;
 mod showing;
 mod stepping;
 mod stop;
+mod task_list;
 mod tick_list;

@@ -4,7 +4,6 @@ ghost use Rattle.scenario.specs.Shown.{shown};
 ghost use Rattle.transcript.specs.Policies.{shared_policy};
 ghost use Rattle.transcript.specs.Stages.{tabling, ruled};
 ghost use Rattle.transcript.specs.Steps.{silent as in_silence, on_opening, on_rule, on_show, add_task, accepting, make_fixed, make_ceiling, arrive as arrives, run as runs_on, step};
-ghost use Rattle.play.specs.Views.{tasks_of};
 ghost use Rattle.play.specs.Courses.{stage_of, result_of, Leads, started, TicksOn};
 
 use super::course::{Course, Printed};
@@ -26,7 +25,7 @@ const SILENT: Printed = Printed {
 impl Course {
     // The S line.
     fn open(&mut self, outline: Outline) -> Result<Printed, Stop>
-        requires { tasks_of outline ≡ [] }
+        requires { outline.tasks ≡ [] }
         ensures { Leads result (stage_of self.new) (λ n. on_opening n (in_silence (tabling outline.scale outline.total outline.factor [])) (stage_of self.old)) }
     {
         let Course::Opening = self else {

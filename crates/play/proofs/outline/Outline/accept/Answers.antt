@@ -1,4 +1,4 @@
-use Rattle.std.proofs.Common.{◌≡◌, List, length, Ok, Err, Result, subst, arith, length-take-le}
+use Rattle.std.proofs.Common.{◌≡◌, List, length, Ok, Err, Result, subst, arith}
 use Rattle.tasks.specs.declared.refusal.TableRefusal.{TableRefusal}
 use Rattle.table.specs.declared.table.Table.{Table}
 use Rattle.tasks.specs.declared.task.Task.{Task}
@@ -15,9 +15,9 @@ returns c =
     let r : Result Table TableRefusal = c.accept.result in
     let V : List Task → Type 0 = λ ts. refusal r ≡ verdict (drafted x.scale x.total x.factor (length ts) ts) in
     let P : List Task → Type 0 = λ ts. elim r [ Ok t ↦ draft_of t ≡ drafted x.scale x.total x.factor (length ts) ts | Err e ↦ Unit {0} ] in
-    let judged = subst V c.kept.ensures c.accept.ensures.verdict in
+    let judged = subst V c.as_slice.ensures.tasks c.accept.ensures.verdict in
     record {
       verdict = judged;
-      parts = subst P c.kept.ensures c.accept.ensures.parts;
-      near = verdict_near (draft_in x) (refusal r) (omega (arith, length-take-le x.count x.tasks (omega (arith, x.few, x.long)), x.few)) judged;
+      parts = subst P c.as_slice.ensures.tasks c.accept.ensures.parts;
+      near = verdict_near (draft_in x) (refusal r) c.as_slice.ensures.few judged;
     }
