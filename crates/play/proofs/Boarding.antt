@@ -1,28 +1,28 @@
 -- What a board has still to print, before and after it reads a line.
-use Rattle.std.proofs.Common.{◌≡◌, ℕ, zero, suc, ◌-◌, ◌<◌, List, [], ◌∷◌, ◌++◌, length, drop, Some, None, Ok, Err, Option, Result, sym, ap, ◌∙◌, subst, arith}
+use Rattle.std.proofs.Common.{◌≡◌, ℕ, zero, suc, ◌<◌, List, [], ◌∷◌, ◌++◌, length, drop, Some, None, Ok, Err, Option, Result, sym, ap, ◌∙◌, subst, arith}
 use Rattle.std.proofs.lemmas.List.{append-nil}
-use Rattle.runs.specs.declared.answer.Answer.{Answer}
 use Rattle.output.specs.declared.fault.Fault.{Fault}
 use Rattle.output.specs.declared.output.OutputLine.{OutputLine}
 use Rattle.output.specs.declared.output.OutputLine.TheVariants.{Faulted}
 use Rattle.scenario.specs.declared.place.Place.{Place}
 use Rattle.scenario.specs.declared.place.Reader.{Reader}
 use Rattle.scenario.specs.Items.{Item}
-use Rattle.scenario.specs.Left.{first, others}
+use Rattle.scenario.specs.Left.{others}
 use Rattle.scenario.specs.Readers.{text_of, place_of, lines_left}
 use Rattle.output.specs.Lines.{lines}
 use Rattle.scenario.specs.Reading.{next, moved}
 use Rattle.scenario.proofs.Whole.{fewer}
-use Rattle.transcript.specs.Shows.{answer_lines, listed}
+use Rattle.transcript.specs.Shows.{listed}
 use Rattle.transcript.specs.Stages.{Stage, left_lines, left_stage}
 use Rattle.transcript.specs.Steps.{Step, step}
 use Rattle.transcript.specs.Transcripts.{transcript_from, carried_out}
+use Rattle.play.specs.declared.board.Board.{Board}
 use Rattle.play.specs.declared.course.Course.{Course}
 use Rattle.play.specs.declared.course.Printed.{Printed}
-use Rattle.play.specs.Boards.{upcoming, CarriesOn}
-use Rattle.play.specs.Courses.{stage_of, result_of, Goes_on, Halts}
+use Rattle.play.specs.Boards.{upcoming, to_come, turns_of, LeadsOn, CarriesOn, Reads}
+use Rattle.play.specs.Courses.{stage_of, result_of, Halts}
 use Rattle.play.proofs.Reading.{by_next, from_next}
-use Rattle.play.proofs.Ticked.{upcoming_none, upcoming_halts, upcoming_goes}
+use Rattle.play.proofs.Ticked.{upcoming_none, upcoming_halts}
 
 -- a tick of those that are left
 
@@ -30,12 +30,6 @@ module _ (r : Option Reader) where
   pub left_halts : (n : ℕ) (s s' : Stage) → 0 < n → Halts s s' → upcoming r 0 s' ≡ upcoming r n s
   left_halts zero s s' h halts = absurd (omega arith)
   left_halts (suc k) s s' h halts = upcoming_halts r k s s' halts
-
-  pub left_goes : (n : ℕ) (s s' : Stage) (a : Answer) → 0 < n → Goes_on s s' a → upcoming r n s ≡ answer_lines a ++ upcoming r (n - 1) s'
-  left_goes zero s s' a h goes = absurd (omega arith)
-  left_goes (suc k) s s' a h goes =
-      let less : suc k - 1 ≡ k = omega arith in
-      upcoming_goes r k s s' a goes ∙ ap (λ m. answer_lines a ++ upcoming r m s') (sym less)
 
 -- a line is read
 
@@ -92,15 +86,7 @@ carries_on r r' c c' i n q m is numbered et ep el e em = subst Carries (sym em) 
     }
     by (Err f) e = stops (text_of r) (place_of r) (stage_of c) i is n numbered f e
 
--- a board whose next line is read, and one whose text is over
-
-pub rest_to_come : (held : Option OutputLine) (o : Option Reader) (r : Reader) (left : ℕ) (s : Stage) → held ≡ None → o ≡ Some r → left ≡ 0
-    → listed held ++ upcoming o left s ≡ transcript_from (text_of r) (place_of r) s
-rest_to_come held o r left s eh er el =
-    ap (λ x. listed x ++ upcoming o left s) eh
-    ∙ ap (λ x. upcoming x left s) er
-    ∙ ap (λ n. upcoming (Some r) n s) el
-    ∙ upcoming_none (Some r) s
+-- a board that waits for its next line
 
 pub over_behind : (held : Option OutputLine) (o : Option Reader) (left : ℕ) (s : Stage) → o ≡ None → left ≡ 0 → listed held ++ upcoming o left s ≡ listed held
 over_behind held o left s er el =
@@ -109,10 +95,26 @@ over_behind held o left s er el =
     ∙ ap (λ ls. listed held ++ ls) (upcoming_none None s)
     ∙ append-nil (listed held)
 
--- the first line and the others
+module _ (b b' : Board) (r : Reader) (held : b.held ≡ None) (left : b.left ≡ 0) (there : Some r ≡ b.reader) where
+  rest_to_come : transcript_from (text_of r) (place_of r) (stage_of b.course) ≡ to_come b
+  rest_to_come =
+      sym (upcoming_none (Some r) (stage_of b.course))
+      ∙ ap (λ n. upcoming (Some r) n (stage_of b.course)) (sym left)
+      ∙ ap (λ x. upcoming x b.left (stage_of b.course)) there
+      ∙ ap (λ x. listed x ++ upcoming b.reader b.left (stage_of b.course)) (sym held)
 
-pub line_first : (ls rest : List OutputLine) (l : OutputLine) → ls ≡ l ∷ rest → (Some l ≡ first ls) × (rest ≡ others ls)
-line_first ls rest l e = (ap first (sym e), ap others (sym e))
+  -- reads a line
+  pub goes_on : (p : Printed) (r' : Reader) → LeadsOn p r (stage_of b.course) r' (stage_of b'.course) → b'.held ≡ p.line → b'.left ≡ p.left → b'.reader ≡ Some r' → Reads b b'
+  goes_on p r' on eh el er = record {
+    same =
+        ap (λ x. listed x ++ upcoming b'.reader b'.left (stage_of b'.course)) eh
+        ∙ ap (λ n. listed p.line ++ upcoming b'.reader n (stage_of b'.course)) el
+        ∙ ap (λ x. listed p.line ++ upcoming x p.left (stage_of b'.course)) er
+        ∙ on.same
+        ∙ rest_to_come;
+    fewer = omega (arith, on.fewer, ap turns_of there, ap turns_of er);
+  }
 
-pub none_first : (ls : List OutputLine) → ls ≡ [] → (None ≡ first ls) × (ls ≡ others ls)
-none_first ls e = (ap first (sym e), e ∙ ap others (sym e))
+  -- comes to the end of its text or to a fault
+  pub comes_to_end : listed b'.held ≡ transcript_from (text_of r) (place_of r) (stage_of b.course) → b'.left ≡ 0 → b'.reader ≡ None → Reads b b'
+  comes_to_end last el er = record { same = over_behind b'.held b'.reader b'.left (stage_of b'.course) er el ∙ last ∙ rest_to_come; fewer = omega (arith, ap turns_of there, ap turns_of er) }

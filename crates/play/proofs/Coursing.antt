@@ -1,5 +1,5 @@
 -- What each line does to a course.
-use Rattle.std.proofs.Common.{◌≡◌, ℕ, zero, suc, ◌+◌, ◌^◌, ◌<◌, ◌≤◌, Bool, true, false, List, length, Some, None, Ok, Err, Option, Result, sym, refl, ap, ◌∙◌, subst, arith, lit<}
+use Rattle.std.proofs.Common.{◌≡◌, ℕ, zero, suc, ◌+◌, ◌^◌, ◌<◌, ◌≤◌, Bool, true, false, List, length, Some, None, Err, Option, Result, sym, refl, ap, ◌∙◌, subst, arith, lit<}
 use Rattle.tasks.specs.declared.refusal.TableRefusal.{TableRefusal}
 use Rattle.tasks.specs.declared.task.Factor.{Factor}
 use Rattle.tasks.specs.declared.task.Task.{Task}

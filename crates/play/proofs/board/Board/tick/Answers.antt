@@ -1,4 +1,4 @@
-use Rattle.std.proofs.Common.{◌++◌, refl, ap, arith}
+use Rattle.std.proofs.Common.{◌++◌, refl, ap}
 use Rattle.transcript.specs.Shows.{listed}
 use Rattle.play.specs.Courses.{stage_of}
 use Rattle.play.proofs.Boarding.{left_halts}
