@@ -16,6 +16,7 @@ fn carry_on(reader: &mut Reader<'_>, course: &mut Course) -> Result<Option<Print
     ensures { CarriesOn result reader.old course.old reader.new course.new }
 {
     let number = reader.line_number();
+    // By map and transpose the proof stays open: behind a call it does not know what a closure wrote through a borrow.
     let Some(line) = reader.next_line()? else {
         return Ok(None);
     };
@@ -59,6 +60,7 @@ impl<'a> Board<'a> {
     fn ready(&mut self) -> Option<OutputLine>
         ensures { Readied result self.old self.new }
     {
+        // By or_else the proof stays open, as in carry_on.
         if let Some(line) = self.held.take() {
             return Some(line);
         }
@@ -110,6 +112,7 @@ impl<'a> Board<'a> {
         if out.len() < 40 {
             return Err(WriteRefusal::Short);
         }
+        // By map and transpose the proof stays open, as in carry_on.
         let Some(line) = self.next_line() else {
             return Ok(None);
         };

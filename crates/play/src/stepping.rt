@@ -139,8 +139,8 @@ impl Course {
                     p: amount(p),
                     q: amount(q),
                 };
-                let scale = Shares(amount(scale) as u64);
-                let total = Shares(amount(total) as u64);
+                let scale = Shares(u64::from(amount(scale)));
+                let total = Shares(u64::from(amount(total)));
                 self.open(Outline::new(scale, total, factor))
             }
             Line::High { period, worst } => self.add(Task {

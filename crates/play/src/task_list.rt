@@ -9,6 +9,7 @@ const BLANK: Task = Task {
 };
 
 // The tasks so far. With 33 tasks the table is refused whatever they are, so no more are kept.
+// Not one generic struct with TickList: calls would owe the size of an array of a type parameter.
 #[derive(Drop)]
 pub(crate) struct TaskList {
     slots: [Task; 33],
