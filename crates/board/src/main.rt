@@ -14,30 +14,17 @@ fn read_text(rt: &HostRuntime) -> io::Result<Vec<u8>> {
     Ok(text)
 }
 
-// Prints the next line; false where there is none.
-fn print_line(board: &mut Board<'_>, out: &mut impl Write) -> io::Result<bool> {
-    let mut line = [0u8; 40];
-    match board.pull(&mut line) {
-        Ok(Some(length)) => {
-            out.write_all(&line[0..length])?;
-            Ok(true)
-        }
-        _ => Ok(false),
-    }
-}
-
-fn print_transcript(rt: &HostRuntime, text: &[u8]) -> io::Result<()> {
+fn print_transcript(text: &[u8], out: &mut impl Write) -> io::Result<()> {
     let mut board = Board::new(text);
-    let mut out = BufWriter::new(rt.alloc(), rt.stdout())?;
-    for _ in 0..u64::MAX {
-        if !print_line(&mut board, &mut out)? {
-            break;
-        }
+    let mut line = [0u8; 40];
+    while let Ok(Some(length)) = board.pull(&mut line) {
+        out.write_all(&line[..length])?;
     }
     out.flush()
 }
 
 fn main(rt: HostRuntime) -> io::Result<()> {
     let text = read_text(&rt)?;
-    print_transcript(&rt, text.as_slice())
+    let mut out = BufWriter::new(rt.alloc(), rt.stdout())?;
+    print_transcript(&text, &mut out)
 }

@@ -27,52 +27,40 @@ static NAMES: [&str; 20] = [
     "fault_after_run",
 ];
 
-// How far the transcript and the expected bytes agree.
-#[derive(Clone, Copy)]
-enum Outcome {
-    Same { lines: u64 },
-    Differs { line: u64 },
+// The number of a line that is not the expected one.
+#[derive(Clone, Copy, Debug)]
+struct Difference {
+    line: u64,
 }
 
-// What is expected behind this line, if it is the one that is expected next.
-fn behind<'a>(expected: &'a [u8], line: &[u8]) -> Option<&'a [u8]> {
-    let end = line.len();
-    if expected.len() < end || &expected[0..end] != line {
-        return None;
-    }
-    Some(&expected[end..expected.len()])
-}
-
-fn compare(text: &[u8], expected: &[u8]) -> Outcome {
+// How many lines the transcript has, if they are the expected ones.
+fn compare(text: &[u8], expected: &[u8]) -> Result<u64, Difference> {
     let mut board = Board::new(text);
     let mut rest = expected;
+    let mut line = [0u8; 40];
+    // Counted by hand: the lines come one by one into the same buffer, so no iterator numbers them.
     let mut lines: u64 = 0;
-    for _ in 0..u64::MAX {
-        let mut line = [0u8; 40];
-        let Ok(Some(length)) = board.pull(&mut line) else {
-            break;
-        };
+    while let Ok(Some(length)) = board.pull(&mut line) {
         lines = lines.saturating_add(1);
-        match behind(rest, &line[0..length]) {
-            Some(bytes) => rest = bytes,
-            None => return Outcome::Differs { line: lines },
-        }
+        rest = rest
+            .strip_prefix(&line[..length])
+            .ok_or(Difference { line: lines })?;
     }
     if rest.is_empty() {
-        Outcome::Same { lines }
+        Ok(lines)
     } else {
-        Outcome::Differs {
+        Err(Difference {
             line: lines.saturating_add(1),
-        }
+        })
     }
 }
 
 fn check(rt: &HostRuntime, name: &str) -> io::Result<()> {
     let text = fs::read(rt, format!(in rt.alloc(); "{name}.txt")?)?;
     let expected = fs::read(rt, format!(in rt.alloc(); "{name}.out")?)?;
-    match compare(text.as_slice(), expected.as_slice()) {
-        Outcome::Same { lines } => println!(rt; "{name}: all {lines} lines are as expected"),
-        Outcome::Differs { line } => println!(rt; "{name}: line {line} is not the expected one"),
+    match compare(&text, &expected) {
+        Ok(lines) => println!(rt; "{name}: all {lines} lines are as expected"),
+        Err(Difference { line }) => println!(rt; "{name}: line {line} is not the expected one"),
     }
 }
 

@@ -4,45 +4,21 @@ use Rattle.table.specs.Tables.{draft_of}
 use Rattle.any_rule.specs.Any.{policy_of_base}
 use Rattle.runs.specs.declared.answer.Answer.{Answer}
 use Rattle.output.specs.declared.fault.Fault.{Fault}
-use Rattle.transcript.specs.Shows.{Show as Shown, new_show, answer_lines}
+use Rattle.transcript.specs.Shows.{new_show, answer_lines}
 use Rattle.transcript.specs.Stages.{Stage, opening, tabling, ruled, showing, left_lines, left_stage}
 use Rattle.transcript.specs.Steps.{Step}
 use Rattle.play.specs.declared.course.Course.{Course}
+use Rattle.play.specs.declared.course.Course.TheVariants.{Opening, Table, Rule, Work}
 use Rattle.play.specs.declared.course.Printed.{Printed}
-use Rattle.play.specs.declared.head.Head.{Head}
-use Rattle.play.specs.declared.head.Head.TheVariants.{Opening, Table, Rule}
-use Rattle.play.specs.declared.head.Stand.{Stand}
-use Rattle.play.specs.declared.head.Stand.TheVariants.{Opening as AtOpening, Table as AtTable, Rule as AtRule, Work as AtWork}
-use Rattle.play.specs.declared.outline.Outline.{Outline}
-use Rattle.play.specs.declared.ruled.Ruled.{Ruled}
-use Rattle.play.specs.declared.show.Show.{Show}
+use Rattle.play.specs.declared.stop.Stop.{Stop}
 use Rattle.play.specs.Shown.{show_of}
-use Rattle.play.specs.Views.{tasks_of}
-
-abbrev pub outlined : Outline → Stage
-outlined o = tabling o.scale o.total o.factor (tasks_of o)
-
-abbrev pub under_rule : Ruled → Stage
-under_rule u = ruled (draft_of u.table) (policy_of_base u.rule)
-
-abbrev pub head_stage : Head → Stage
-head_stage Opening = opening
-head_stage (Table o) = outlined o
-head_stage (Rule u) = under_rule u
-
-abbrev pub stage_by : Head → Option Show → Stage
-stage_by head None = head_stage head
-stage_by head (Some w) = showing (show_of w)
+use Rattle.play.specs.Stops.{fault_of, IsNear}
 
 abbrev pub stage_of : Course → Stage
-stage_of c = stage_by c.head c.show
-
--- what may be done next agrees with the stage
-abbrev pub Stands : Stand → Course → Type 0
-Stands AtOpening c = (c.show ≡ None) × (stage_of c ≡ opening)
-Stands (AtTable o) c = (c.show ≡ None) × (stage_of c ≡ outlined o)
-Stands (AtRule u) c = (c.show ≡ None) × (stage_of c ≡ under_rule u)
-Stands AtWork c = (w : Shown) × (stage_of c ≡ showing w)
+stage_of Opening = opening
+stage_of (Table o) = tabling o.scale o.total o.factor o.tasks
+stage_of (Rule u) = ruled (draft_of u.table) (policy_of_base u.rule)
+stage_of (Work w) = showing (show_of w)
 
 -- the first event makes the dispatcher
 abbrev pub started : Stage → Stage
@@ -55,6 +31,20 @@ started (showing w) = showing w
 abbrev pub result_of : Result Printed Fault → Stage → Result Step Fault
 result_of (Ok p) stage = Ok (record { printed = p.line; left = p.left; stage = stage })
 result_of (Err f) stage = Err f
+
+-- the same as line n, a stop being a fault there
+abbrev pub on_line : ℕ → Result Printed Stop → Result Printed Fault
+on_line n (Ok p) = Ok p
+on_line n (Err e) = Err (fault_of n e)
+
+abbrev pub StopsNear : Result Printed Stop → Type 0
+StopsNear (Ok p) = Unit {0}
+StopsNear (Err e) = IsNear e
+
+-- what a line led to is what is meant for it, whatever its number
+pub record Leads (r : Result Printed Stop) (behind : Stage) (meant : ℕ → Result Step Fault) : Type 0 where
+  pub to : (n : ℕ) → result_of (on_line n r) behind ≡ meant n
+  pub near : StopsNear r
 
 -- a tick, and how it leads on those behind it; without one, those behind it print nothing either
 pub record Goes_on (s s' : Stage) (a : Answer) : Type 0 where

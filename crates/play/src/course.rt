@@ -1,12 +1,19 @@
-use super::head::Head;
+use super::outline::Outline;
+use super::ruled::Ruled;
 use super::show::Show;
 use output::output::OutputLine;
 
-// How far a scenario has come: its head, and the dispatcher once it is at work.
+// How far a scenario has come.
 #[derive(Drop)]
-pub(crate) struct Course {
-    pub(crate) head: Head,
-    pub(crate) show: Option<Show>,
+pub(crate) enum Course {
+    // before the S line
+    Opening,
+    // behind it, with the tasks so far
+    Table(Outline),
+    // the table is accepted and its rule is made; a ceiling may follow
+    Rule(Ruled),
+    // the dispatcher is at work
+    Work(Show),
 }
 
 // What a line prints, and the ticks that it lets run.

@@ -4,7 +4,6 @@
 pub mod board;
 mod course;
 mod fields;
-mod head;
 mod outline;
 mod outlining;
 mod printing;
@@ -14,4 +13,6 @@ mod ruling;
 mod show;
 mod showing;
 mod stepping;
+mod stop;
+mod task_list;
 mod tick_list;

@@ -1,12 +1,13 @@
 ghost use Rattle.std.specs.Prelude.{◌≡◌, [], Ok, Err};
-ghost use Rattle.table.specs.Drafts.{as_drafted};
 ghost use Rattle.table.specs.Firsts.{refusal};
 ghost use Rattle.table.specs.Tables.{draft_of};
 ghost use Rattle.table.specs.Verdict.{verdict};
 ghost use Rattle.transcript.specs.Steps.{with_task};
-ghost use Rattle.play.specs.Views.{tasks_of, draft_in};
+ghost use Rattle.play.specs.Stops.{BlamesNear};
+ghost use Rattle.play.specs.Views.{draft_in};
 
 use super::outline::Outline;
+use super::task_list::TaskList;
 use table::draft::Draft;
 use table::table::Table;
 use tasks::refusal::TableRefusal;
@@ -16,45 +17,34 @@ use tasks::units::Shares;
 impl Outline {
     // No task yet.
     pub(crate) fn new(scale: Shares, total: Shares, factor: Factor) -> Outline
-        ensures { (result.scale ≡ scale) × (result.total ≡ total) × (result.factor ≡ factor) × (tasks_of result ≡ []) }
+        ensures { (result.scale ≡ scale) × (result.total ≡ total) × (result.factor ≡ factor) × (result.tasks ≡ []) }
     {
         Outline {
             scale,
             total,
             factor,
-            tasks: [Task::BLANK; 33],
-            count: 0,
+            tasks: TaskList::new(),
         }
     }
 
     // One task more.
     pub(crate) fn push(&mut self, task: Task)
-        ensures same { (self.new.scale ≡ self.old.scale) × (self.new.total ≡ self.old.total) × (self.new.factor ≡ self.old.factor) }
-        ensures tasks { tasks_of self.new ≡ with_task (tasks_of self.old) task }
+        ensures { self.new ≡ record self.old { tasks = with_task self.old.tasks task } }
     {
-        if self.count < 33 {
-            self.tasks[self.count] = task;
-            self.count += 1;
-        }
-    }
-
-    // The draft of the tasks so far.
-    fn draft(&self) -> Draft<'_>
-        ensures { as_drafted result ≡ draft_in self.now }
-    {
-        Draft {
-            scale: self.scale,
-            total: self.total,
-            factor: self.factor,
-            tasks: &self.tasks[..self.count],
-        }
+        self.tasks.push(task);
     }
 
     // The table, if it is accepted.
     pub(crate) fn accept(&self) -> Result<Table, TableRefusal>
         ensures verdict { refusal result ≡ verdict (draft_in self.now) }
         ensures parts { elim result [ Ok t ↦ draft_of t ≡ draft_in self.now | Err e ↦ Unit {0} ] }
+        ensures near { BlamesNear (refusal result) }
     {
-        Table::accept(&self.draft())
+        Table::accept(&Draft {
+            scale: self.scale,
+            total: self.total,
+            factor: self.factor,
+            tasks: self.tasks.as_slice(),
+        })
     }
 }

@@ -1,15 +1,27 @@
-ghost use Rattle.std.specs.Prelude.{◌≡◌, ℕ, ◌<◌, true, false, ◌∷◌, Some, None, Ok, Err};
+ghost use Rattle.std.specs.Prelude.{◌≡◌, ℕ, ◌<◌, ◌∷◌, Some, None, Ok, Err};
 ghost use Rattle.scenario.specs.Left.{first as first_of, others as others_of};
 ghost use Rattle.transcript.specs.Ages.{StaysYoung};
 ghost use Rattle.transcript.specs.Transcripts.{transcript};
-ghost use Rattle.play.specs.Boards.{to_come, turns, Readied, pulled, pulled_bytes, left_behind, ShortLine};
+ghost use Rattle.play.specs.Boards.{to_come, turns, Readied, CarriesOn, ReadsOn, pulled, pulled_bytes, left_behind, ShortLine};
 
 use super::board::Board;
-use super::course::Course;
-use super::head::Head;
+use super::course::{Course, Printed};
 use super::printing::{switch_line, tick_line};
+use output::fault::Fault;
 use output::output::{OutputLine, WriteRefusal};
 use scenario::place::Reader;
+
+// Reads the next line of the text and carries it out; none at the end of the text.
+fn carry_on(reader: &mut Reader<'_>, course: &mut Course) -> Result<Option<Printed>, Fault>
+    ensures { CarriesOn result reader.old course.old reader.new course.new }
+{
+    let number = reader.line_number();
+    // By map and transpose the proof stays open: behind a call it does not know what a closure wrote through a borrow.
+    let Some(line) = reader.next_line()? else {
+        return Ok(None);
+    };
+    course.carry_out(number, line).map(Some)
+}
 
 impl<'a> Board<'a> {
     // A board over a text: the whole transcript of the text is to come.
@@ -17,83 +29,63 @@ impl<'a> Board<'a> {
         ensures transcript { to_come result ≡ transcript text.now }
         ensures young { StaysYoung text.now }
     {
+        let reader = Reader::new(text);
         Board {
-            reader: Reader::new(text),
-            course: Course {
-                head: Head::Opening,
-                show: None,
-            },
+            reader: Some(reader),
+            course: Course::Opening,
             held: None,
             left: 0,
-            over: false,
         }
     }
 
-    // Runs a tick, and gives the first line that it prints.
+    // Runs a tick if there are some left, and gives the first line that it prints.
     fn tick(&mut self) -> Option<OutputLine>
         requires held { self.old.held ≡ None }
-        requires some { 0 < self.old.left }
         ensures { Readied result self.old self.new }
     {
+        self.left = self.left.checked_sub(1)?;
         let Some(answer) = self.course.tick() else {
             self.left = 0;
             return None;
         };
-        self.left -= 1;
         let line = tick_line(answer);
-        match switch_line(answer) {
-            Some(switch) => {
-                self.held = Some(line);
-                Some(switch)
-            }
-            None => Some(line),
-        }
+        let Some(switch) = switch_line(answer) else {
+            return Some(line);
+        };
+        self.held = Some(line);
+        Some(switch)
     }
 
     // The next line, if it comes without reading on.
     fn ready(&mut self) -> Option<OutputLine>
         ensures { Readied result self.old self.new }
     {
-        if let Some(line) = self.held {
-            self.held = None;
+        // By or_else the proof stays open, as in carry_on.
+        if let Some(line) = self.held.take() {
             return Some(line);
-        }
-        if self.left == 0 {
-            return None;
         }
         self.tick()
     }
 
-    // Reads the next line of the text and carries it out.
-    fn read_on(&mut self)
+    // Reads on, if the text is not over.
+    fn read_on(&mut self) -> Option<()>
         requires held { self.old.held ≡ None }
         requires left { self.old.left ≡ 0 }
-        requires open { self.old.over ≡ false }
-        ensures same { to_come self.new ≡ to_come self.old }
-        ensures fewer { turns self.new < turns self.old }
+        ensures { ReadsOn result self.old self.new }
     {
-        let number = self.reader.line_number();
-        match self.reader.next_line() {
-            Ok(read) => match read {
-                Some(line) => match self.course.carry_out(number, line) {
-                    Ok(printed) => {
-                        self.held = printed.line;
-                        self.left = printed.left;
-                    }
-                    Err(fault) => {
-                        self.held = Some(OutputLine::Faulted(fault));
-                        self.over = true;
-                    }
-                },
-                None => {
-                    self.over = true;
-                }
-            },
+        let reader = self.reader.as_mut()?;
+        match carry_on(reader, &mut self.course) {
+            Ok(Some(printed)) => {
+                self.held = printed.line;
+                self.left = printed.left;
+            }
+            Ok(None) => self.reader = None,
             Err(fault) => {
                 self.held = Some(OutputLine::Faulted(fault));
-                self.over = true;
+                self.reader = None;
             }
         }
+        Some(())
     }
 
     // The next line of the transcript; none at the end.
@@ -105,10 +97,7 @@ impl<'a> Board<'a> {
             if let Some(line) = self.ready() {
                 return Some(line);
             }
-            if self.over {
-                return None;
-            }
-            self.read_on();
+            self.read_on()?;
         }
     }
 
@@ -123,12 +112,10 @@ impl<'a> Board<'a> {
         if out.len() < 40 {
             return Err(WriteRefusal::Short);
         }
+        // By map and transpose the proof stays open, as in carry_on.
         let Some(line) = self.next_line() else {
             return Ok(None);
         };
-        match line.write(out) {
-            Ok(length) => Ok(Some(length)),
-            Err(refusal) => Err(refusal),
-        }
+        line.write(out).map(Some)
     }
 }

@@ -5,7 +5,5 @@ use Rattle.budget.proofs.Policies.{new_fixed}
 use Rattle.any_rule.specs.Any.{policy_of_base}
 use Rattle.play.proofs.ruled.Ruled.fixed.Goals as goal
 
-pub returns : goal.returns
-returns c =
-    let e = c.in_ok-rule.ensures in
-    record { refused = e.refused; made = (refl, ap policy_of_base c.from.ensures ∙ fun_ext (new_fixed (draft_of c.args.table) c.args.budgets.now c.in_ok-rule.rule e.made)) }
+pub returns-clause-made : goal.returns-clause-made
+returns-clause-made c = (refl, ap policy_of_base c.from.ensures ∙ fun_ext (new_fixed (draft_of c.args.table) c.args.budgets.now c.in_ok-rule.rule c.in_ok-rule.ensures.made))
