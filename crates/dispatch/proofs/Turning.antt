@@ -1,5 +1,6 @@
 -- Turns: whose they are, who is asked, and that a switch leaves one.
 use Rattle.std.proofs.Common.{◌≡◌, ℕ, ◌^◌, ◌<◌, Bool, true, false, cond, not, [], ◌∷◌, Some, None, Ok, Err, Option, sym, refl, ap, ◌∙◌, subst, arith}
+use Rattle.std.specs.Option.{option_map}
 use Rattle.std.proofs.lemmas.Bool.{lt-ltb}
 use Rattle.tasks.specs.declared.units.Ticks.{Ticks}
 use Rattle.tasks.specs.declared.task.Criticality.{Criticality}
@@ -17,9 +18,11 @@ use Rattle.runs.specs.declared.answer.Answer.{Answer}
 use Rattle.runs.specs.declared.call.Mark.{Mark}
 use Rattle.runs.specs.declared.refusal.TickRefusal.{TickRefusal}
 use Rattle.runs.specs.declared.refusal.TickRefusal.TheVariants.{ForeignRule}
-use Rattle.runs.specs.States.{State, rank, is_high, within}
+use Rattle.runs.specs.States.{State, the_task, rank, is_high, within}
 use Rattle.runs.specs.Choices.{Turn, turn, turn_of, turn_by}
 use Rattle.runs.specs.Ticking.{asked_by, asked, denied, switches, drops_by, kept, running_mode, running_jobs, tick_fault, outcome_by, outcome_at, outcome, Outcome, end_fault, tick_result, tick_state, tick, after_tick, Asked, LetRest, Consulted, rule_after_by, RuleAfter}
+use Rattle.dispatch.specs.declared.turn.Taken.{Taken}
+use Rattle.dispatch.specs.Turns.{turn_of_taken, taken_of, asked_of}
 use Rattle.runs.proofs.Choosing.{Seated, Turned, turn_is}
 
 -- the turn's job is pending
@@ -38,16 +41,37 @@ pub asked_is : (d : Draft) (ahead : Ahead) (jobs : ℕ → Option Job) (mode : M
 asked_is d ahead jobs High o e = refl
 asked_is d ahead jobs Low o e = ap (asked_by d Low) e
 
+-- a turn that is taken with its task
+
+pub turn_taken : (d : Draft) (o : Option Turn) (f : Taken) → Some f ≡ option_map (taken_of d) o → (o ≡ Some (turn_of_taken f)) × (f.task ≡ the_task d f.number)
+turn_taken d None f e = let z : ◌≡◌ {A = ℕ} 0 1 = cc in absurd (omega arith)
+turn_taken d (Some t) f e =
+    let is : f ≡ taken_of d t = cc in
+    (ap (λ x. Some (turn_of_taken x)) (sym is), ap (λ x. x.task) is ∙ ap (λ x. the_task d x.number) (sym is))
+
+pub none_taken : (d : Draft) (o : Option Turn) → None ≡ option_map (taken_of d) o → o ≡ None
+none_taken d None e = refl
+none_taken d (Some t) e = let z : ◌≡◌ {A = ℕ} 0 1 = cc in absurd (omega arith)
+
+asked_taken : (d : Draft) (mode : Mode) (f : Taken) → f.task ≡ the_task d f.number → asked_by d mode (Some (turn_of_taken f)) ≡ asked_of mode f
+asked_taken d High f e = refl
+asked_taken d Low f e = ap (λ t. cond (is_high t.criticality) (Some (turn_of_taken f)) None) (sym e)
+
+pub asked_first : (d : Draft) (ahead : Ahead) (s : State) (f : Taken) → Some f ≡ option_map (taken_of d) (turn ahead s.mode d s.job) → asked d ahead s ≡ asked_of s.mode f
+asked_first d ahead s f e =
+    let is = turn_taken d (turn ahead s.mode d s.job) f e in
+    asked_is d ahead s.job s.mode (Some (turn_of_taken f)) is.0 ∙ asked_taken d s.mode f is.1
+
 pub none_asked : (d : Draft) (mode : Mode) → asked_by d mode None ≡ None
 none_asked d High = refl
 none_asked d Low = refl
 
 -- a denied job is high
-pub denied_high : (d : Draft) (says : ℕ → ℕ → Bool) (mode : Mode) (t : Turn) → denied says (asked_by d mode (Some t)) ≡ true → is_high (rank d t.number) ≡ true
-denied_high d says High t e = let z : ◌≡◌ {A = ℕ} 0 1 = cc in absurd (omega arith)
-denied_high d says Low t e = by (is_high (rank d t.number)) e
+pub denied_high : (says : ℕ → ℕ → Bool) (mode : Mode) (f : Taken) → denied says (asked_of mode f) ≡ true → is_high f.task.criticality ≡ true
+denied_high says High f e = let z : ◌≡◌ {A = ℕ} 0 1 = cc in absurd (omega arith)
+denied_high says Low f e = by (is_high f.task.criticality) e
   where
-    by : (b : Bool) → denied says (cond b (Some t) None) ≡ true → b ≡ true
+    by : (b : Bool) → denied says (cond b (Some (turn_of_taken f)) None) ≡ true → b ≡ true
     by true q = refl
     by false q = q
 
@@ -103,12 +127,14 @@ module _ (d : Draft) (ahead : Ahead) (s : State) (mark : Mark) (m : Meaning) whe
         subst P (sym q) (record { mid = mid; grant = grant; rest = subst R (sym is) rest }),
   )
 
-pub answer_is : (clock : Ticks) (task : Option ℕ) (mode mode' : Mode) (switched : Bool) (dropped dropped' : ℕ) (ending ending' : Option Ending) → mode ≡ mode' → dropped ≡ dropped' → ending ≡ ending'
-    → ◌≡◌ {A = Answer} (record { clock = clock; task = task; mode = mode; switched = switched; dropped = dropped; ending = ending }) (record { clock = clock; task = task; mode = mode'; switched = switched; dropped = dropped'; ending = ending' })
-answer_is clock task mode mode' switched dropped dropped' ending ending' em ed ee =
+pub answer_is : (clock : Ticks) (task : Option ℕ) (mode mode' : Mode) (switched switched' : Bool) (dropped dropped' : ℕ) (ending ending' : Option Ending)
+    → mode ≡ mode' → switched ≡ switched' → dropped ≡ dropped' → ending ≡ ending'
+    → ◌≡◌ {A = Answer} (record { clock = clock; task = task; mode = mode; switched = switched; dropped = dropped; ending = ending }) (record { clock = clock; task = task; mode = mode'; switched = switched'; dropped = dropped'; ending = ending' })
+answer_is clock task mode mode' switched switched' dropped dropped' ending ending' em es ed ee =
     ap (λ x. record { clock = clock; task = task; mode = x; switched = switched; dropped = dropped; ending = ending }) em
-    ∙ ap (λ x. record { clock = clock; task = task; mode = mode'; switched = switched; dropped = x; ending = ending }) ed
-    ∙ ap (λ x. record { clock = clock; task = task; mode = mode'; switched = switched; dropped = dropped'; ending = x }) ee
+    ∙ ap (λ x. record { clock = clock; task = task; mode = mode'; switched = x; dropped = dropped; ending = ending }) es
+    ∙ ap (λ x. record { clock = clock; task = task; mode = mode'; switched = switched'; dropped = x; ending = ending }) ed
+    ∙ ap (λ x. record { clock = clock; task = task; mode = mode'; switched = switched'; dropped = dropped'; ending = x }) ee
 
 -- with no turn nothing is pending
 pub turn_left : (d : Draft) (ahead : Ahead) → TieLaws ahead → (mode : Mode) (s : State) → Seated s.job → turn ahead mode d s.job ≡ None → (i : ℕ) → s.job i ≡ None

@@ -1,11 +1,13 @@
 -- Candidates of slots, and the turn that is taken.
 use Rattle.std.specs.Prelude.{ℕ, ◌+◌, cond, List, Some, None, Option, nat_lt, slice_index_or}
-use Rattle.tasks.specs.declared.task.Level.TheVariants.{High}
+use Rattle.tasks.specs.declared.task.Level.TheVariants.{High as HighLevel}
 use Rattle.table.specs.Verdict.{Draft}
 use Rattle.order.specs.declared.candidate.Candidate.{Candidate}
 use Rattle.order.specs.Orders.{candidate}
 use Rattle.runs.specs.declared.answer.Mode.{Mode}
+use Rattle.runs.specs.declared.answer.Mode.TheVariants.{High, Low}
 use Rattle.runs.specs.declared.answer.Job.{Job}
+use Rattle.runs.specs.States.{the_task, is_high}
 use Rattle.runs.specs.Choices.{contender, Turn}
 use Rattle.dispatch.specs.declared.turn.Taken.{Taken}
 
@@ -15,12 +17,17 @@ slot_of jobs k = cond (nat_lt k 32) (slice_index_or jobs k None) None
 
 -- the candidate of slot k; a slot without a job is never offered
 abbrev pub rival : Mode → Draft → ℕ → Option Job → Candidate
-rival mode d k None = candidate 0 High (cond (nat_lt k 32) (k + 1) 0)
+rival mode d k None = candidate 0 HighLevel (cond (nat_lt k 32) (k + 1) 0)
 rival mode d k (Some j) = contender mode d (k + 1) j
 
 abbrev pub turn_of_taken : Taken → Turn
 turn_of_taken t = record { number = t.number; job = t.job }
 
-abbrev pub turn_taken : Option Taken → Option Turn
-turn_taken None = None
-turn_taken (Some t) = Some (turn_of_taken t)
+-- a turn with its task
+abbrev pub taken_of : Draft → Turn → Taken
+taken_of d t = record { number = t.number; task = the_task d t.number; job = t.job }
+
+-- the turn that the rule is asked about: in low mode that of a high task
+abbrev pub asked_of : Mode → Taken → Option Turn
+asked_of High t = None
+asked_of Low t = cond (is_high t.task.criticality) (Some (turn_of_taken t)) None

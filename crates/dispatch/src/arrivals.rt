@@ -1,11 +1,11 @@
-ghost use Rattle.std.specs.Prelude.{◌≡◌, ◌+◌, ◌^◌, ◌<◌, true, Some, None, Ok, Err, slice_index_or};
+ghost use Rattle.std.specs.Prelude.{◌≡◌, ◌^◌, ◌<◌, true, Some, Ok, Err};
 ghost use Rattle.table.specs.Firsts.{refusal};
 ghost use Rattle.table.specs.Tables.{draft_of};
 ghost use Rattle.runs.specs.States.{known, within as is_within};
 ghost use Rattle.runs.specs.Arrivals.{next_arrival, unassured_by, arrival_fault, arrival, after_arrival};
 ghost use Rattle.dispatch.specs.Cores.{Fine, state_of};
 
-use super::lookup::{job_at, within};
+use super::lookup::{at, within};
 use super::state::Core;
 use super::steps::write;
 use runs::answer::{Job, Mode};
@@ -14,37 +14,21 @@ use table::table::Table;
 use tasks::task::Criticality;
 use tasks::units::Ticks;
 
-fn last_at(last: &[Option<Ticks>; 32], slot: u32) -> Option<Ticks>
-    requires { slot < 32 }
-    ensures { result ≡ slice_index_or last.now slot None }
-{
-    last[slot as usize]
-}
-
 // The first clock at which a task may arrive again.
 fn next_after(last: Option<Ticks>, period: Ticks) -> Ticks
     requires { next_arrival period.0 last < 2 ^ 64 }
     ensures { result.0 ≡ next_arrival period.0 last }
 {
-    match last {
-        Some(arrival) => Ticks(arrival.0 + period.0),
-        None => Ticks(0),
-    }
+    last.map_or(Ticks(0), |arrival| Ticks(arrival.0 + period.0))
 }
 
 fn check_assured(mode: Mode, number: u32, criticality: Criticality) -> Result<(), ArrivalRefusal>
     ensures { refusal result ≡ unassured_by mode number (is_within criticality 0) }
 {
-    match mode {
-        Mode::Low => Ok(()),
-        Mode::High => {
-            if within(criticality, Ticks(0)) {
-                Ok(())
-            } else {
-                Err(ArrivalRefusal::NoAssuredPart(number))
-            }
-        }
+    if mode == Mode::High && !within(criticality, Ticks(0)) {
+        return Err(ArrivalRefusal::NoAssuredPart(number));
     }
+    Ok(())
 }
 
 // The first refusal of an arrival, if there is one.
@@ -56,15 +40,15 @@ fn check_arrival(table: &Table, core: &Core, number: u32) -> Result<(), ArrivalR
     if core.foreign {
         return Err(ArrivalRefusal::ForeignRule);
     }
-    let Some(task) = table.task(number) else {
-        return Err(ArrivalRefusal::NoSuchTask(number));
-    };
+    let task = table
+        .task(number)
+        .ok_or(ArrivalRefusal::NoSuchTask(number))?;
     let slot = number - 1;
-    let next = next_after(last_at(&core.last, slot), task.period);
-    if next.0 > core.clock.0 {
+    let next = next_after(at(&core.last, slot), task.period);
+    if next > core.clock {
         return Err(ArrivalRefusal::TooEarly(number, next));
     }
-    if let Some(job) = job_at(&core.jobs, slot) {
+    if let Some(job) = at(&core.jobs, slot) {
         return Err(ArrivalRefusal::StillPending(number, job));
     }
     check_assured(core.mode, number, task.criticality)

@@ -1,12 +1,14 @@
-ghost use Rattle.std.specs.Prelude.{◌≡◌, ◌^◌, None};
+ghost use Rattle.std.specs.Prelude.{◌≡◌, ◌^◌};
+ghost use Rattle.std.specs.Option.{option_map};
 ghost use Rattle.table.specs.Tables.{draft_of};
 ghost use Rattle.runs.specs.Choices.{turn as the_turn};
 ghost use Rattle.runs.specs.Slots.{seat};
 ghost use Rattle.dispatch.specs.Cores.{Fine, Offered, Owned, ArrivedBy, masked};
-ghost use Rattle.dispatch.specs.Turns.{turn_taken};
+ghost use Rattle.dispatch.specs.Turns.{taken_of};
 
-use super::lookup::job_at;
+use super::lookup::at;
 use super::rivals::Rivals;
+use super::row::Row;
 use super::state::Core;
 use super::turn::Taken;
 use order::chooser::first;
@@ -25,18 +27,18 @@ pub(crate) fn choose<O: TieOrder>(
     requires offered { Offered mask jobs.now }
     requires owned { Owned (draft_of table.now).count jobs.now }
     requires arrived { ArrivedBy (2 ^ 40) jobs.now }
-    ensures { turn_taken result ≡ the_turn (O.TieOrder.ahead order.now) mode (draft_of table.now) (masked mask jobs.now) }
+    ensures { result ≡ option_map (taken_of (draft_of table.now)) (the_turn (O.TieOrder.ahead order.now) mode (draft_of table.now) (masked mask jobs.now)) }
 {
     let rivals = Rivals { table, jobs, mode };
-    let Some(slot) = first(order, &rivals, mask) else {
-        return None;
-    };
-    let Some(job) = job_at(jobs, slot) else {
-        return None;
+    let slot = first(order, &rivals, mask)?;
+    let row = Row {
+        table,
+        number: slot + 1,
     };
     Some(Taken {
-        number: slot + 1,
-        job,
+        number: row.number,
+        task: row.task(),
+        job: at(jobs, slot).unwrap(),
     })
 }
 
@@ -48,7 +50,7 @@ pub(crate) fn choose_pending<O: TieOrder>(
     mode: Mode,
 ) -> Option<Taken>
     requires { Fine (draft_of table.now) core.now }
-    ensures { turn_taken result ≡ the_turn (O.TieOrder.ahead order.now) mode (draft_of table.now) (seat core.now.jobs) }
+    ensures { result ≡ option_map (taken_of (draft_of table.now)) (the_turn (O.TieOrder.ahead order.now) mode (draft_of table.now) (seat core.now.jobs)) }
 {
     choose(table, order, &core.jobs, mode, core.pending)
 }

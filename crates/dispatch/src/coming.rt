@@ -28,18 +28,13 @@ pub(crate) fn coming_parts<R: Rule, O: TieOrder>(
     if core.foreign {
         return None;
     }
-    if core.clock.0 >= CLOCK_END {
+    if core.clock >= CLOCK_END {
         return None;
     }
-    let Some(first) = choose_pending(table, order, core, core.mode) else {
-        return None;
-    };
-    if !would_deny(table, rule, core.mode, first) {
+    let first = choose_pending(table, order, core, core.mode)?;
+    if !would_deny(rule, core.mode, first) {
         return Some(first.number);
     }
     let kept = without(core.pending, past_assured(table, &core.jobs, core.pending));
-    match choose(table, order, &core.jobs, Mode::High, kept) {
-        Some(again) => Some(again.number),
-        None => None,
-    }
+    choose(table, order, &core.jobs, Mode::High, kept).map(|again| again.number)
 }

@@ -14,6 +14,7 @@ pub(crate) mod parts;
 pub mod questions;
 pub(crate) mod rivalry;
 pub(crate) mod rivals;
+pub(crate) mod row;
 pub(crate) mod state;
 pub(crate) mod steps;
 pub(crate) mod turn;

@@ -20,19 +20,14 @@ use tasks::units::Ticks;
 fn weights_agree<R: Rule>(table: &Table, rule: &R) -> bool
     ensures { result ≡ is_none (first_below 32 (foreign_weight (draft_of table.now) (R.Rule.meaning rule.now))) }
 {
-    for k in 0..32u32 {
-        if rule.weight(k + 1).0 != rule_weight(table, k + 1).0 {
-            return false;
-        }
-    }
-    true
+    (0..32).all(|slot| rule.weight(slot + 1) == rule_weight(table, slot + 1))
 }
 
 // Whether the rule's weights or total are not the table's.
 fn is_foreign<R: Rule>(table: &Table, rule: &R) -> bool
     ensures { result ≡ foreign_rule (draft_of table.now) (R.Rule.meaning rule.now) }
 {
-    !weights_agree(table, rule) || rule.total().0 != table.total().0
+    !weights_agree(table, rule) || rule.total() != table.total()
 }
 
 // Nothing is pending, and nothing has arrived.

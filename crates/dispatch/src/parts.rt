@@ -1,4 +1,6 @@
-ghost use Rattle.std.specs.Prelude.{◌≡◌, true, false, if◌then◌else◌, Some, None, Ok, Err};
+ghost use Rattle.std.specs.Prelude.{◌≡◌, Some, Ok, Err};
+ghost use Rattle.std.specs.Bool.{then_some};
+ghost use Rattle.std.specs.Option.{option_map};
 ghost use Rattle.table.specs.Tables.{draft_of};
 ghost use Rattle.runs.specs.Masks.{mask};
 ghost use Rattle.runs.specs.Slots.{seat};
@@ -6,7 +8,7 @@ ghost use Rattle.runs.specs.Choices.{turn as the_turn};
 ghost use Rattle.runs.specs.Ticking.{drops, switches, asked, Asked, tick as the_tick, after_tick, RuleAfter};
 ghost use Rattle.dispatch.specs.Cores.{Fine, state_of};
 ghost use Rattle.dispatch.specs.Steps.{running};
-ghost use Rattle.dispatch.specs.Turns.{turn_of_taken};
+ghost use Rattle.dispatch.specs.Turns.{taken_of};
 
 use super::choose::choose_pending;
 use super::state::Core;
@@ -18,16 +20,17 @@ use runs::answer::{Answer, Mode};
 use runs::call::Mark;
 use runs::refusal::TickRefusal;
 use table::table::Table;
+use tasks::units::Ticks;
 
 // At this clock every tick is refused.
-pub(crate) const CLOCK_END: u64 = 1_099_511_627_776;
+pub(crate) const CLOCK_END: Ticks = Ticks(1_099_511_627_776);
 
 // The turn of a tick, once the rule was asked.
 #[derive(Clone, Copy)]
 pub(crate) struct Decided {
     pub(crate) taken: Taken,
-    pub(crate) switched: bool,
-    pub(crate) dropped: u32,
+    // the slots that the switch dropped, if the tick switches
+    pub(crate) dropped: Option<u32>,
 }
 
 // Asks the rule about the first job; where it is denied, the tick switches and the choice is made afresh.
@@ -39,31 +42,25 @@ fn decide<R: Rule, O: TieOrder>(
     first: Taken,
 ) -> Decided
     requires fine { Fine (draft_of table.now) core.old }
-    requires first { the_turn (O.TieOrder.ahead order.now) core.old.mode (draft_of table.now) (seat core.old.jobs) ≡ Some (turn_of_taken first) }
-    ensures switched { result.switched ≡ switches (draft_of table.now) (O.TieOrder.ahead order.now) (R.Rule.meaning rule.old).yes (state_of core.old) }
-    ensures dropped { result.dropped ≡ (if result.switched then mask 32 (drops (draft_of table.now) (seat core.old.jobs)) else 0) }
-    ensures state { state_of core.new ≡ running (draft_of table.now) result.switched (state_of core.old) }
-    ensures taken { the_turn (O.TieOrder.ahead order.now) core.new.mode (draft_of table.now) (seat core.new.jobs) ≡ Some (turn_of_taken result.taken) }
+    requires first { Some first ≡ option_map (taken_of (draft_of table.now)) (the_turn (O.TieOrder.ahead order.now) core.old.mode (draft_of table.now) (seat core.old.jobs)) }
+    ensures dropped { result.dropped ≡ then_some (switches (draft_of table.now) (O.TieOrder.ahead order.now) (R.Rule.meaning rule.old).yes (state_of core.old)) (mask 32 (drops (draft_of table.now) (seat core.old.jobs))) }
+    ensures state { state_of core.new ≡ running (draft_of table.now) (switches (draft_of table.now) (O.TieOrder.ahead order.now) (R.Rule.meaning rule.old).yes (state_of core.old)) (state_of core.old) }
+    ensures taken { Some result.taken ≡ option_map (taken_of (draft_of table.now)) (the_turn (O.TieOrder.ahead order.now) core.new.mode (draft_of table.now) (seat core.new.jobs)) }
     ensures grant { Asked (asked (draft_of table.now) (O.TieOrder.ahead order.now) (state_of core.old)) (R.Rule.meaning rule.old) (R.Rule.meaning rule.new) }
     ensures policy { R.Rule.policy rule.new ≡ R.Rule.policy rule.old }
     ensures fine { Fine (draft_of table.now) core.new }
 {
-    if !denied(table, rule, core.mode, first) {
+    if !denied(rule, core.mode, first) {
         return Decided {
             taken: first,
-            switched: false,
-            dropped: 0,
+            dropped: None,
         };
     }
     let dropped = switch(table, core);
-    let taken = match choose_pending(table, order, core, Mode::High) {
-        Some(again) => again,
-        None => first,
-    };
+    let again = choose_pending(table, order, core, Mode::High).unwrap();
     Decided {
-        taken,
-        switched: true,
-        dropped,
+        taken: again,
+        dropped: Some(dropped),
     }
 }
 
@@ -86,7 +83,7 @@ pub(crate) fn tick_parts<R: Rule, O: TieOrder>(
     if core.foreign {
         return Err(TickRefusal::ForeignRule);
     }
-    if core.clock.0 >= CLOCK_END {
+    if core.clock >= CLOCK_END {
         return Err(TickRefusal::ClockEnd(core.clock));
     }
     let clock = core.clock;
@@ -109,8 +106,8 @@ pub(crate) fn tick_parts<R: Rule, O: TieOrder>(
         clock,
         task: Some(decided.taken.number),
         mode,
-        switched: decided.switched,
-        dropped: decided.dropped,
+        switched: decided.dropped.is_some(),
+        dropped: decided.dropped.unwrap_or(0),
         ending,
     })
 }

@@ -14,7 +14,7 @@ ghost use Rattle.dispatch.specs.Questions.{task_run, age_at, plain, is_pending, 
 
 use super::coming::coming_parts;
 use super::dispatcher::Dispatcher;
-use super::lookup::job_at;
+use super::lookup::at;
 use super::lowest::lowest_task;
 use budget::rule::{Metered, Rule};
 use order::mask::slots_in;
@@ -50,10 +50,8 @@ impl<'o, R: Rule, O: TieOrder> Dispatcher<'o, R, O> {
         ensures is { result ≡ (state_of self.now.core).job task }
         ensures log { (kind : Kind) (log : List Entry) → Produced kind (draft_of self.now.table) (O.TieOrder.ahead self.now.order.now) log (R.Rule.meaning self.now.rule) (state_of self.now.core) → result ≡ shown task log }
     {
-        if task == 0 || task > 32 {
-            return None;
-        }
-        job_at(&self.core.jobs, task - 1)
+        let slot = task.checked_sub(1)?;
+        at(&self.core.jobs, slot)
     }
 
     // The age of a task's pending job: the ticks since its arrival. It is always below the task's period.
@@ -61,10 +59,8 @@ impl<'o, R: Rule, O: TieOrder> Dispatcher<'o, R, O> {
         ensures is { result ≡ age_at (state_of self.now.core).clock ((state_of self.now.core).job task) }
         ensures log { (kind : Kind) (log : List Entry) → Produced kind (draft_of self.now.table) (O.TieOrder.ahead self.now.order.now) log (R.Rule.meaning self.now.rule) (state_of self.now.core) → (plain result ≡ log_age task log) × ((a : Ticks) → result ≡ Some a → a.0 < period (draft_of self.now.table) task) }
     {
-        match self.job(task) {
-            Some(job) => Some(Ticks(self.core.clock.0 - job.arrival.0)),
-            None => None,
-        }
+        let clock = self.core.clock;
+        self.job(task).map(|job| Ticks(clock.0 - job.arrival.0))
     }
 
     // The task that the coming tick would run: none if it would be idle or refused.

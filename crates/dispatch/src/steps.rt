@@ -1,15 +1,16 @@
-ghost use Rattle.std.specs.Prelude.{◌≡◌, ◌+◌, ◌^◌, ◌<◌, true, if◌then◌else◌, Some, None};
+ghost use Rattle.std.specs.Prelude.{◌≡◌, ◌+◌, ◌^◌, ◌<◌, true, Some};
+ghost use Rattle.std.specs.Bool.{then_some};
 ghost use Rattle.table.specs.Tables.{draft_of};
 ghost use Rattle.runs.specs.Masks.{mask};
 ghost use Rattle.runs.specs.Slots.{seat};
-ghost use Rattle.runs.specs.States.{known, the_task};
-ghost use Rattle.runs.specs.Ticking.{drops, ending as the_ending, falls_short as is_short, none_pending, LetRest, Asked, asked_by, denied as is_denied};
+ghost use Rattle.runs.specs.States.{the_task};
+ghost use Rattle.runs.specs.Ticking.{drops, ending as the_ending, falls_short as is_short, none_pending, LetRest, Asked, denied as is_denied};
 ghost use Rattle.dispatch.specs.Cores.{Fine, state_of};
 ghost use Rattle.dispatch.specs.Steps.{running, served_state, settled, Writes, rest_of};
-ghost use Rattle.dispatch.specs.Turns.{turn_of_taken};
+ghost use Rattle.dispatch.specs.Turns.{turn_of_taken, asked_of};
 
 use super::drops::{clear, past_assured, without};
-use super::lookup::{is_high, task_of};
+use super::lookup::is_high;
 use super::state::Core;
 use super::turn::Taken;
 use budget::rule::Rule;
@@ -33,40 +34,26 @@ pub(crate) fn write(core: &mut Core, slot: u32, job: Option<Job>)
 }
 
 // Whether the rule is asked about the first job: in low mode, if it is high.
-fn asks(table: &Table, mode: Mode, first: Taken) -> bool
-    requires { known (draft_of table.now) first.number ≡ true }
-    ensures { asked_by (draft_of table.now) mode (Some (turn_of_taken first)) ≡ (if result then Some (turn_of_taken first) else None) }
+fn asks(mode: Mode, first: Taken) -> bool
+    ensures { asked_of mode first ≡ then_some result (turn_of_taken first) }
 {
-    match mode {
-        Mode::High => false,
-        Mode::Low => is_high(task_of(table, first.number).criticality),
-    }
+    mode == Mode::Low && is_high(first.task.criticality)
 }
 
 // Asks the rule for a grant, where it is asked at all: whether that was denied.
-pub(crate) fn denied<R: Rule>(table: &Table, rule: &mut R, mode: Mode, first: Taken) -> bool
-    requires { known (draft_of table.now) first.number ≡ true }
-    ensures grant { Asked (asked_by (draft_of table.now) mode (Some (turn_of_taken first))) (R.Rule.meaning rule.old) (R.Rule.meaning rule.new) }
-    ensures is { result ≡ is_denied (R.Rule.meaning rule.old).yes (asked_by (draft_of table.now) mode (Some (turn_of_taken first))) }
+pub(crate) fn denied<R: Rule>(rule: &mut R, mode: Mode, first: Taken) -> bool
+    ensures grant { Asked (asked_of mode first) (R.Rule.meaning rule.old) (R.Rule.meaning rule.new) }
+    ensures is { result ≡ is_denied (R.Rule.meaning rule.old).yes (asked_of mode first) }
     ensures policy { R.Rule.policy rule.new ≡ R.Rule.policy rule.old }
 {
-    if asks(table, mode, first) {
-        !rule.grant(first.number, first.job.run)
-    } else {
-        false
-    }
+    asks(mode, first) && !rule.grant(first.number, first.job.run)
 }
 
 // Whether a grant would be denied.
-pub(crate) fn would_deny<R: Rule>(table: &Table, rule: &R, mode: Mode, first: Taken) -> bool
-    requires { known (draft_of table.now) first.number ≡ true }
-    ensures { result ≡ is_denied (R.Rule.meaning rule.now).yes (asked_by (draft_of table.now) mode (Some (turn_of_taken first))) }
+pub(crate) fn would_deny<R: Rule>(rule: &R, mode: Mode, first: Taken) -> bool
+    ensures { result ≡ is_denied (R.Rule.meaning rule.now).yes (asked_of mode first) }
 {
-    if asks(table, mode, first) {
-        !rule.ask(first.number, first.job.run)
-    } else {
-        false
-    }
+    asks(mode, first) && !rule.ask(first.number, first.job.run)
 }
 
 // The mode becomes high, and the low jobs that have had their assured part are dropped.
@@ -87,12 +74,9 @@ pub(crate) fn switch(table: &Table, core: &mut Core) -> u32
 fn falls_short(criticality: Criticality, mode: Mode, run: Ticks) -> bool
     ensures { result ≡ is_short mode criticality run.0 }
 {
-    match mode {
-        Mode::Low => false,
-        Mode::High => match criticality {
-            Criticality::High => false,
-            Criticality::Low { assured } => run.0 == assured.0,
-        },
+    match (mode, criticality) {
+        (Mode::High, Criticality::Low { assured }) => run == assured,
+        _ => false,
     }
 }
 
@@ -102,15 +86,9 @@ fn ending(task: Task, mode: Mode, mark: Mark, run: Ticks) -> Option<Ending>
 {
     match mark {
         Mark::Done => Some(Ending::Done),
-        Mark::NotDone => {
-            if run.0 == task.worst.0 {
-                Some(Ending::Limit)
-            } else if falls_short(task.criticality, mode, run) {
-                Some(Ending::Short)
-            } else {
-                None
-            }
-        }
+        Mark::NotDone if run == task.worst => Some(Ending::Limit),
+        Mark::NotDone if falls_short(task.criticality, mode, run) => Some(Ending::Short),
+        Mark::NotDone => None,
     }
 }
 
@@ -118,23 +96,21 @@ fn ending(task: Task, mode: Mode, mark: Mark, run: Ticks) -> Option<Ending>
 fn rest_of(ending: Option<Ending>, arrival: Ticks, run: Ticks) -> Option<Job>
     ensures { result ≡ rest_of ending arrival run }
 {
-    match ending {
-        Some(_) => None,
-        None => Some(Job { arrival, run }),
-    }
+    ending.is_none().then_some(Job { arrival, run })
 }
 
 // The job has its tick, and ends or goes on.
 pub(crate) fn serve(table: &Table, core: &mut Core, taken: Taken, mark: Mark) -> Option<Ending>
     requires fine { Fine (draft_of table.now) core.old }
+    requires task { taken.task ≡ the_task (draft_of table.now) taken.number }
     requires pending { seat core.old.jobs taken.number ≡ Some taken.job }
     requires early { core.old.clock.0 < 2 ^ 40 }
-    ensures ending { result ≡ the_ending (the_task (draft_of table.now) taken.number) core.old.mode mark (taken.job.run.0 + 1) }
+    ensures ending { result ≡ the_ending taken.task core.old.mode mark (taken.job.run.0 + 1) }
     ensures state { state_of core.new ≡ served_state (draft_of table.now) mark (state_of core.old) (turn_of_taken taken) }
     ensures fine { Fine (draft_of table.now) core.new }
 {
     let run = Ticks(taken.job.run.0 + 1);
-    let ending = ending(task_of(table, taken.number), core.mode, mark, run);
+    let ending = ending(taken.task, core.mode, mark, run);
     write(
         core,
         taken.number - 1,

@@ -25,17 +25,17 @@ impl Needs {
     pub fn need(&self, task: u32) -> Ticks
         ensures { result.0 ≡ ticks_in self.now.slots task }
     {
-        if task == 0 || task > 32 {
-            return Ticks(0);
-        }
-        self.slots[task as usize - 1]
+        task.checked_sub(1)
+            .and_then(|slot| self.slots.get(slot as usize))
+            .copied()
+            .unwrap_or(Ticks(0))
     }
 
     // Notes the need of a task's job. A number outside 1 to 32 is no task, and nothing is noted.
     pub fn note(&mut self, task: u32, need: Ticks)
         ensures { (i : ℕ) → ticks_in self.new.slots i ≡ noted (ticks_in self.old.slots) task need.0 i }
     {
-        if 1 <= task && task <= 32 {
+        if (1..=32).contains(&task) {
             self.slots[task as usize - 1] = need;
         }
     }

@@ -1,4 +1,4 @@
-use Rattle.std.proofs.Common.{◌≡◌, ◌-◌, ◌≤◌, true, None, sym, ap, ◌∙◌, arith}
+use Rattle.std.proofs.Common.{◌≡◌, ◌-◌, ◌≤◌, true, None, sym, ap, ◌∙◌, arith, rules, tests}
 use Rattle.table.specs.Tables.{draft_of}
 use Rattle.table.specs.Verdict.{in_range}
 use Rattle.table.proofs.Tables.{table_accepted, task_sound, present}
@@ -13,20 +13,21 @@ use Rattle.dispatch.proofs.arrivals.check_arrival.Goals as goal
 pub next_after-next-requires : goal.next_after-next-requires
 next_after-next-requires c =
     let t = c.args.table.now in
-    let sound = task_sound (draft_of t) (table_accepted t) c.args.number c.in-Some.task (sym c.in-Some.ensures) in
-    next_small c.in-Some.task.period.0 c.last_at.result (λ r e. omega (arith, c.requires.lasts (c.args.number - 1) r (sym c.last_at.ensures ∙ e), c.requires.clocked)) sound.period_high
+    let sound = task_sound (draft_of t) (table_accepted t) c.args.number c.in_ok-task.task (sym c.task.ensures ∙ c.in_ok-task.ensures.ok_part) in
+    next_small c.in_ok-task.task.period.0 c.at.result (λ r e. omega (arith, c.requires.lasts (c.args.number - 1) r (sym c.at.ensures ∙ e), c.requires.clocked)) sound.period_high
 
 pub returns : goal.returns
 returns c =
     let d = draft_of c.args.table.now in
     let s = state_of c.args.core.now in
     let i = c.args.number in
-    let p = present (in_range 1 d.count i) (the_task d i) c.in-Some.task (sym c.in-Some.ensures) in
+    let p = present (in_range 1 d.count i) (the_task d i) c.in_ok-task.task (sym c.task.ensures ∙ c.in_ok-task.ensures.ok_part) in
     let low : 1 ≤ i = known_low d i p.0 in
-    let last : s.last i ≡ c.last_at.result = seat_at c.args.core.now.last i low ∙ sym c.last_at.ensures in
-    let free : s.job i ≡ None = seat_at c.args.core.now.jobs i low ∙ sym c.in_default-job_at.ensures in
-    let next : next_arrival (period d i) (s.last i) ≡ c.next_after-next.result.0 = ap (next_arrival (period d i)) last ∙ ap (λ t. next_arrival t.period.0 c.last_at.result) p.1 ∙ sym c.next_after-next.ensures in
-    let early : next_arrival (period d i) (s.last i) ≤ s.clock = omega (arith, next, c.if-next-core.false) in
+    let last : s.last i ≡ c.at.result = seat_at c.args.core.now.last i low ∙ sym c.at.ensures in
+    let free : s.job i ≡ None = seat_at c.args.core.now.jobs i low ∙ sym c.in_default.ensures in
+    let next : next_arrival (period d i) (s.last i) ≡ c.next_after-next.result.0 = ap (next_arrival (period d i)) last ∙ ap (λ t. next_arrival t.period.0 c.at.result) p.1 ∙ sym c.next_after-next.ensures in
+    let passed : c.next_after-next.result.0 ≤ s.clock = search (rules, tests, c.if-gt.ensures) in
+    let early : next_arrival (period d i) (s.last i) ≤ s.clock = omega (arith, next, passed) in
     record {
       first = c.check_assured.ensures ∙ ap (λ t. unassured_by s.mode i (within t.criticality 0)) (sym p.1) ∙ sym (last_fault d s i c.if-core.false p.0 early free);
       known = where_ok (known d i ≡ true) c.check_assured.result p.0;

@@ -1,6 +1,8 @@
-use Rattle.std.proofs.Common.{◌<◌, sym, arith}
+use Rattle.std.proofs.Common.{◌+◌, ◌<◌, is_some, Some, sym, ap, ◌∙◌, arith}
+use Rattle.std.specs.Option.{option_map}
 use Rattle.table.specs.Tables.{draft_of}
 use Rattle.order.specs.Orders.{TieLaws}
+use Rattle.dispatch.specs.Turns.{taken_of}
 use Rattle.dispatch.proofs.Chosen.{none_turn, first_turn, slot_below}
 use Rattle.dispatch.proofs.choose.choose.Given as given
 use Rattle.dispatch.proofs.choose.choose.Goals as goal
@@ -8,16 +10,20 @@ use Rattle.dispatch.proofs.choose.choose.Goals as goal
 laws : (g : given.Over) (x : g.row.O.Denot) → TieLaws (g.O.TieOrder.ahead x)
 laws g x = record { one_way = g.met.O.TieOrder.one_way x; transitive = g.met.O.TieOrder.transitive x; refines_deadlines = g.met.O.TieOrder.refines_deadlines x }
 
-pub returns-in_default : goal.returns-in_default
-returns-in_default g c =
-    sym (none_turn (g.O.TieOrder.ahead c.args.order.now) (laws g c.args.order.now) c.args.mode (draft_of c.args.table.now) c.args.mask c.args.jobs.now (omega arith) c.requires.offered c.in_default.ensures.chosen)
+pub returns-in_err-slot : goal.returns-in_err-slot
+returns-in_err-slot g c =
+    let d = draft_of c.args.table.now in
+    c.from_residual.ensures
+    ∙ ap (option_map (taken_of d)) (sym (none_turn (g.O.TieOrder.ahead c.args.order.now) (laws g c.args.order.now) c.args.mode d c.args.mask c.args.jobs.now (omega arith) c.requires.offered c.in_err-slot.ensures.chosen))
 
-pub job_at-requires : goal.job_at-requires
-job_at-requires g c = slot_below c.args.mask c.in-Some.slot (omega arith) c.in-Some.ensures.chosen.is_offered
+pub overflow_add-row : goal.overflow_add-row
+overflow_add-row g c = let low : c.in_ok-slot.slot < 32 = slot_below c.args.mask c.in_ok-slot.slot (omega arith) c.in_ok-slot.ensures.chosen.is_offered in omega arith
 
-pub overflow_add-result : goal.overflow_add-result
-overflow_add-result g c = let low : c.in-Some.slot < 32 = slot_below c.args.mask c.in-Some.slot (omega arith) c.in-Some.ensures.chosen.is_offered in omega arith
+pub unwrap-requires : goal.unwrap-requires
+unwrap-requires g c = ap is_some c.at.ensures ∙ c.requires.offered c.in_ok-slot.slot c.in_ok-slot.ensures.chosen.is_offered
 
 pub returns : goal.returns
 returns g c =
-    sym (first_turn (g.O.TieOrder.ahead c.args.order.now) (laws g c.args.order.now) c.args.mode (draft_of c.args.table.now) c.args.mask c.args.jobs.now (omega arith) c.requires.offered c.in-Some.slot c.in-Some-job_at.job c.in-Some.ensures.chosen (sym c.in-Some-job_at.ensures))
+    let d = draft_of c.args.table.now in
+    ap (λ t. Some (record { number = c.in_ok-slot.slot + 1; task = t; job = c.unwrap.result })) c.task.ensures.is
+    ∙ ap (option_map (taken_of d)) (sym (first_turn (g.O.TieOrder.ahead c.args.order.now) (laws g c.args.order.now) c.args.mode d c.args.mask c.args.jobs.now (omega arith) c.requires.offered c.in_ok-slot.slot c.unwrap.result c.in_ok-slot.ensures.chosen (sym c.at.ensures ∙ c.unwrap.ensures)))

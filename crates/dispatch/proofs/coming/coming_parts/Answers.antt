@@ -1,21 +1,23 @@
-use Rattle.std.proofs.Common.{◌≡◌, ◌^◌, ◌<◌, Bool, true, false, not, ◌&&◌, Some, None, Option, sym, refl, ap, ◌∙◌, arith}
+use Rattle.std.proofs.Common.{◌≡◌, ℕ, ◌^◌, ◌<◌, Bool, true, false, not, ◌&&◌, Some, None, Option, sym, refl, ap, ◌∙◌, arith, rules, tests}
+use Rattle.std.specs.Option.{option_map}
 use Rattle.table.specs.Tables.{draft_of}
 use Rattle.table.specs.Verdict.{Draft}
 use Rattle.order.specs.Bits.{bit}
 use Rattle.order.specs.Orders.{Ahead}
 use Rattle.budget.specs.Meaning.{Meaning}
+use Rattle.runs.specs.declared.answer.Job.{Job}
+use Rattle.runs.specs.declared.answer.Mode.{Mode}
 use Rattle.runs.specs.declared.answer.Mode.TheVariants.{High}
 use Rattle.runs.specs.declared.call.Mark.{Mark}
-use Rattle.runs.specs.Slots.{seat}
 use Rattle.runs.specs.States.{State}
-use Rattle.runs.specs.Choices.{Turn, turn, chosen}
-use Rattle.runs.specs.Ticking.{switches, denied, running_mode, running_jobs, outcome_by, tick}
+use Rattle.runs.specs.Choices.{Turn, turn}
+use Rattle.runs.specs.Ticking.{switches, denied, kept, running_mode, running_jobs, outcome_by, tick}
 use Rattle.dispatch.specs.Cores.{state_of}
 use Rattle.dispatch.specs.Questions.{task_run}
-use Rattle.dispatch.specs.Turns.{turn_of_taken}
+use Rattle.dispatch.specs.Turns.{turn_of_taken, taken_of}
 use Rattle.dispatch.proofs.Asked.{masked_kept}
-use Rattle.dispatch.proofs.Fines.{seat_known}
-use Rattle.dispatch.proofs.Turning.{turn_pending, asked_is, no_fault, outcome_is, idle_calm, accepted}
+use Rattle.dispatch.proofs.Mapped.{mapped}
+use Rattle.dispatch.proofs.Turning.{turn_taken, none_taken, asked_first, no_fault, outcome_is, idle_calm, accepted}
 use Rattle.dispatch.proofs.coming.coming_parts.Goals as goal
 
 -- the task of an accepted tick
@@ -25,21 +27,15 @@ runs : (d : Draft) (ahead : Ahead) (m : Meaning) (s : State) → s.foreign ≡ f
 runs d ahead m s own early b o sw t mark =
     ap task_run (accepted d ahead s mark m (outcome_by d s mark b (running_mode b s.mode) (running_jobs b d s.job) o) (no_fault s own early) (outcome_is d ahead m.yes s mark b o sw t)).0
 
-pub returns-in_default : goal.returns-in_default
-returns-in_default g c mark =
+pub returns-in_err-first : goal.returns-in_err-first
+returns-in_err-first g c mark =
     let d = draft_of c.args.table.now in
     let s = state_of c.args.core.now in
     let ahead : Ahead = g.O.TieOrder.ahead c.args.order.now in
     let m : Meaning = g.R.Rule.meaning c.args.rule.now in
-    let none = sym c.in_default.ensures in
-    runs d ahead m s c.if-core.false c.if-core-ge-CLOCK_END.false false None (idle_calm d ahead m.yes s none) none mark
-
-pub would_deny-requires : goal.would_deny-requires
-would_deny-requires g c =
-    let d = draft_of c.args.table.now in
-    let s = c.args.core.now in
-    let t = turn_of_taken c.in-Some.first in
-    seat_known d s.jobs c.requires.owned t.number t.job (turn_pending (seat s.jobs) (chosen (g.O.TieOrder.ahead c.args.order.now) s.mode d (seat s.jobs)) t (sym c.in-Some.ensures))
+    let none = none_taken d (turn ahead s.mode d s.job) c.in_err-first.ensures in
+    let early : s.clock < 2 ^ 40 = search (rules, tests, c.if-ge.ensures) in
+    c.from_residual.ensures ∙ runs d ahead m s c.if-core.false early false None (idle_calm d ahead m.yes s none) none mark
 
 pub returns-then-not-would_deny : goal.returns-then-not-would_deny
 returns-then-not-would_deny g c mark =
@@ -47,10 +43,11 @@ returns-then-not-would_deny g c mark =
     let s = state_of c.args.core.now in
     let ahead : Ahead = g.O.TieOrder.ahead c.args.order.now in
     let m : Meaning = g.R.Rule.meaning c.args.rule.now in
-    let t = turn_of_taken c.in-Some.first in
-    let first = sym c.in-Some.ensures in
-    let calm : switches d ahead m.yes s ≡ false = ap (denied m.yes) (asked_is d ahead s.job s.mode (Some t) first) ∙ sym c.would_deny.ensures ∙ c.if-not-would_deny.true in
-    runs d ahead m s c.if-core.false c.if-core-ge-CLOCK_END.false false (Some t) calm first mark
+    let f = c.in_ok-first.first in
+    let early : s.clock < 2 ^ 40 = search (rules, tests, c.if-ge.ensures) in
+    let first = turn_taken d (turn ahead s.mode d s.job) f c.in_ok-first.ensures in
+    let calm : switches d ahead m.yes s ≡ false = ap (denied m.yes) (asked_first d ahead s f c.in_ok-first.ensures) ∙ sym c.would_deny.ensures ∙ c.if-not-would_deny.true in
+    runs d ahead m s c.if-core.false early false (Some (turn_of_taken f)) calm first.0 mark
 
 left : (a b : Bool) → (a && not b) ≡ true → a ≡ true
 left true b e = refl
@@ -63,28 +60,23 @@ choose-requires g c = record {
   arrived = λ k j e. omega (arith, c.requires.arrived k j e, c.requires.clocked);
 }
 
-pub returns-in-Some-choose : goal.returns-in-Some-choose
-returns-in-Some-choose g c mark =
-    let d = draft_of c.args.table.now in
-    let s = state_of c.args.core.now in
-    let ahead : Ahead = g.O.TieOrder.ahead c.args.order.now in
-    let m : Meaning = g.R.Rule.meaning c.args.rule.now in
-    let t = turn_of_taken c.in-Some.first in
-    let first = sym c.in-Some.ensures in
-    let switch : switches d ahead m.yes s ≡ true = ap (denied m.yes) (asked_is d ahead s.job s.mode (Some t) first) ∙ sym c.would_deny.ensures ∙ c.if-not-would_deny.false in
-    let kept_are = masked_kept d c.args.core.now.pending c.past_assured.result c.without-kept.result c.args.core.now.jobs c.requires.agrees c.past_assured.ensures.bits c.without-kept.ensures in
-    let again = ap (turn ahead High d) (sym kept_are) ∙ sym c.in-Some-choose.ensures in
-    runs d ahead m s c.if-core.false c.if-core-ge-CLOCK_END.false true (Some (turn_of_taken c.in-Some-choose.again)) switch again mark
+numbers : (d : Draft) (s : State) (mark : Mark) (b : Bool) (mode : Mode) (jobs : ℕ → Option Job) (o : Option Turn) → option_map (λ t. t.number) (option_map (taken_of d) o) ≡ (outcome_by d s mark b mode jobs o).answer.task
+numbers d s mark b mode jobs None = refl
+numbers d s mark b mode jobs (Some t) = refl
 
-pub returns-in-None : goal.returns-in-None
-returns-in-None g c mark =
+pub returns : goal.returns
+returns g c mark =
     let d = draft_of c.args.table.now in
     let s = state_of c.args.core.now in
     let ahead : Ahead = g.O.TieOrder.ahead c.args.order.now in
     let m : Meaning = g.R.Rule.meaning c.args.rule.now in
-    let t = turn_of_taken c.in-Some.first in
-    let first = sym c.in-Some.ensures in
-    let switch : switches d ahead m.yes s ≡ true = ap (denied m.yes) (asked_is d ahead s.job s.mode (Some t) first) ∙ sym c.would_deny.ensures ∙ c.if-not-would_deny.false in
+    let f = c.in_ok-first.first in
+    let early : s.clock < 2 ^ 40 = search (rules, tests, c.if-ge.ensures) in
+    let switch : switches d ahead m.yes s ≡ true = ap (denied m.yes) (asked_first d ahead s f c.in_ok-first.ensures) ∙ sym c.would_deny.ensures ∙ c.if-not-would_deny.false in
     let kept_are = masked_kept d c.args.core.now.pending c.past_assured.result c.without-kept.result c.args.core.now.jobs c.requires.agrees c.past_assured.ensures.bits c.without-kept.ensures in
-    let again = ap (turn ahead High d) (sym kept_are) ∙ sym c.in-None.ensures in
-    runs d ahead m s c.if-core.false c.if-core-ge-CLOCK_END.false true None switch again mark
+    let again = turn ahead High d (kept d s.job) in
+    let told : c.choose.result ≡ option_map (taken_of d) again = c.choose.ensures ∙ ap (λ jobs. option_map (taken_of d) (turn ahead High d jobs)) kept_are in
+    mapped (λ t. t.number) _ c.choose.result c.map.result c.map.ensures.cases (λ t n k. search rules)
+    ∙ ap (option_map (λ t. t.number)) told
+    ∙ numbers d s mark true High (kept d s.job) again
+    ∙ runs d ahead m s c.if-core.false early true again switch refl mark

@@ -8,7 +8,7 @@ use Rattle.dispatch.specs.declared.state.Core.{Core}
 use Rattle.dispatch.specs.Cores.{state_of}
 use Rattle.dispatch.specs.Steps.{served_state}
 use Rattle.dispatch.specs.Turns.{turn_of_taken}
-use Rattle.dispatch.proofs.Fines.{seat_slot, seat_known, seat_below, fine_written, jobs_written, rest_served, rest_arrival, rest_run_is}
+use Rattle.dispatch.proofs.Fines.{seat_slot, seat_below, fine_written, jobs_written, rest_served, rest_arrival, rest_run_is}
 use Rattle.dispatch.proofs.Seats.{state_is}
 use Rattle.dispatch.proofs.steps.serve.Goals as goal
 
@@ -17,9 +17,6 @@ overflow_add-run c =
     let s = c.args.core.now in
     let there = seat_slot s.jobs c.args.taken.number c.args.taken.job c.requires.pending in
     omega (arith, c.requires.fine.run (c.args.taken.number - 1) c.args.taken.job there.1, c.requires.fine.clocked)
-
-pub task_of-requires : goal.task_of-requires
-task_of-requires c = seat_known (draft_of c.args.table.now) c.args.core.now.jobs c.requires.fine.owned c.args.taken.number c.args.taken.job c.requires.pending
 
 pub write-requires : goal.write-requires
 write-requires c = seat_below c.args.table.now c.args.core.now.jobs c.requires.fine.owned c.args.taken.number c.args.taken.job c.requires.pending
@@ -42,11 +39,11 @@ returns c =
     let ec : s₁.clock ≡ s.clock = w.clock' in
     let later : s'.clock.0 ≡ s.clock.0 + 1 = ap (λ t. t.0 + 1) ec in
     let back : suc (i - 1) ≡ i = omega (arith, there.0) in
-    let ends : e ≡ ending (the_task d i) s.mode c.args.mark (j.run.0 + 1) = c.ending-ending.ensures ∙ ap (λ t. ending t s.mode c.args.mark (j.run.0 + 1)) c.task_of.ensures.is in
+    let ends : e ≡ ending (the_task d i) s.mode c.args.mark (j.run.0 + 1) = c.ending-ending.ensures ∙ ap (λ t. ending t s.mode c.args.mark (j.run.0 + 1)) c.requires.task in
     let is : rest ≡ served (ending (the_task d i) s.mode c.args.mark (j.run.0 + 1)) j = c.rest_of.ensures ∙ rest_served e j run refl ∙ ap (λ x. served x j) ends in
     let jobs = jobs_written d s s₁ s' (i - 1) rest w f low refl refl (omega (arith, later)) (omega (arith, later, c.requires.early)) in
     record {
-      ending = ends;
+      ending = c.ending-ending.ensures;
       state = state_is (state_of s') (served_state d c.args.mark (state_of s) (turn_of_taken c.args.taken)) w.foreign' later w.mode'
           (jobs ∙ ap (λ n. put (seat s.jobs) n rest) back ∙ ap (put (seat s.jobs) i) is) (ap seat w.last');
       fine = fine_written d s s₁ s' (i - 1) rest w f low refl refl (omega (arith, later)) (omega (arith, later, c.requires.early))
