@@ -88,9 +88,9 @@ lowest_is m word = elim (ℕ_discrete m 0) [
 
 -- the jobs that a switch would keep
 
-pub masked_kept : (d : Draft) (pending past rest : ℕ) (jobs : List (Option Job)) → Agrees pending jobs → ((k : ℕ) → bit past k ≡ drops_at d jobs k)
-    → ((k : ℕ) → bit rest k ≡ (bit pending k && not (bit past k))) → masked rest jobs ≡ kept d (seat jobs)
-masked_kept d pending past rest jobs agrees drops_are left = fun_ext (λ i. by i)
+pub masked_kept : (d : Draft) (pending rest : ℕ) (jobs : List (Option Job)) → Agrees pending jobs → ((k : ℕ) → bit rest k ≡ (bit pending k && not (drops_at d jobs k)))
+    → masked rest jobs ≡ kept d (seat jobs)
+masked_kept d pending rest jobs agrees left = fun_ext (λ i. by i)
   where
     at : (a b : Bool) (o : Option Job) → a ≡ is_some o → cond (a && not b) o None ≡ cond b None o
     at true true o e = refl
@@ -102,5 +102,5 @@ masked_kept d pending past rest jobs agrees drops_are left = fun_ext (λ i. by i
     by : (i : ℕ) → masked rest jobs i ≡ kept d (seat jobs) i
     by zero = refl
     by (suc k) =
-        ap (λ b. cond b (get_or jobs k None) None) (left k) ∙ at (bit pending k) (bit past k) (get_or jobs k None) (agrees k)
-        ∙ ap (λ b. cond b None (get_or jobs k None)) (drops_are k ∙ drops_seat d jobs k)
+        ap (λ b. cond b (get_or jobs k None) None) (left k) ∙ at (bit pending k) (drops_at d jobs k) (get_or jobs k None) (agrees k)
+        ∙ ap (λ b. cond b None (get_or jobs k None)) (drops_seat d jobs k)

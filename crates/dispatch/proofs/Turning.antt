@@ -19,10 +19,12 @@ use Rattle.runs.specs.declared.call.Mark.{Mark}
 use Rattle.runs.specs.declared.refusal.TickRefusal.{TickRefusal}
 use Rattle.runs.specs.declared.refusal.TickRefusal.TheVariants.{ForeignRule}
 use Rattle.runs.specs.States.{State, the_task, rank, is_high, within}
-use Rattle.runs.specs.Choices.{Turn, turn, turn_of, turn_by}
+use Rattle.runs.specs.Choices.{Turn, turn, turn_of, turn_by, chosen}
 use Rattle.runs.specs.Ticking.{asked_by, asked, denied, switches, drops_by, kept, running_mode, running_jobs, tick_fault, outcome_by, outcome_at, outcome, Outcome, end_fault, tick_result, tick_state, tick, after_tick, Asked, LetRest, Consulted, rule_after_by, RuleAfter}
+use Rattle.runs.specs.Slots.{seat}
+use Rattle.dispatch.specs.declared.state.Core.{Core}
 use Rattle.dispatch.specs.declared.turn.Taken.{Taken}
-use Rattle.dispatch.specs.Turns.{turn_of_taken, taken_of, asked_of}
+use Rattle.dispatch.specs.Turns.{turn_of_taken, taken_of, first_taken, asked_of}
 use Rattle.runs.proofs.Choosing.{Seated, Turned, turn_is}
 
 -- the turn's job is pending
@@ -48,6 +50,12 @@ turn_taken d None f e = let z : ◌≡◌ {A = ℕ} 0 1 = cc in absurd (omega ar
 turn_taken d (Some t) f e =
     let is : f ≡ taken_of d t = cc in
     (ap (λ x. Some (turn_of_taken x)) (sym is), ap (λ x. x.task) is ∙ ap (λ x. the_task d x.number) (sym is))
+
+-- its job is pending
+pub taken_pending : (d : Draft) (ahead : Ahead) (mode : Mode) (c : Core) (f : Taken) → Some f ≡ first_taken d ahead mode c → (seat c.jobs f.number ≡ Some f.job) × (f.task ≡ the_task d f.number)
+taken_pending d ahead mode c f e =
+    let is = turn_taken d (turn ahead mode d (seat c.jobs)) f e in
+    (turn_pending (seat c.jobs) (chosen ahead mode d (seat c.jobs)) (turn_of_taken f) is.0, is.1)
 
 pub none_taken : (d : Draft) (o : Option Turn) → None ≡ option_map (taken_of d) o → o ≡ None
 none_taken d None e = refl
@@ -86,9 +94,6 @@ high_kept d jobs i j e h =
 
 -- an accepted tick
 
-pub no_fault : (s : State) → s.foreign ≡ false → s.clock < 2 ^ 40 → tick_fault s ≡ None
-no_fault s own early = rw (own, lt-ltb s.clock (2 ^ 40) early) refl
-
 pub outcome_is : (d : Draft) (ahead : Ahead) (says : ℕ → ℕ → Bool) (s : State) (mark : Mark) (b : Bool) (o : Option Turn) → switches d ahead says s ≡ b
     → turn ahead (running_mode b s.mode) d (running_jobs b d s.job) ≡ o
     → outcome d ahead says s mark ≡ outcome_by d s mark b (running_mode b s.mode) (running_jobs b d s.job) o
@@ -103,29 +108,24 @@ idle_asks d ahead s m e =
     let P : Option Turn → Type 0 = λ o. Asked o m m in
     subst P (sym (asked_is d ahead s.job s.mode None e ∙ none_asked d s.mode)) refl
 
--- what a refused tick does
-
-pub foreign_fault : (s : State) → s.foreign ≡ true → tick_fault s ≡ Some ForeignRule
-foreign_fault s e = ap (λ b. first_of (unless (not b) ForeignRule ∷ end_fault s ∷ [])) e
-
 module _ (d : Draft) (ahead : Ahead) (s : State) (mark : Mark) (m : Meaning) where
+  -- what a refused tick does
   pub refused : (e : TickRefusal) → tick_fault s ≡ Some e → (Err e ≡ tick d ahead m.yes s mark) × (s ≡ after_tick d ahead m.yes s mark) × RuleAfter d ahead s mark m m
   refused e q =
       let P : Option TickRefusal → Type 0 = λ f. rule_after_by f (Consulted d ahead s mark m m) m m in
       (ap (λ f. tick_result f (outcome d ahead m.yes s mark).answer) (sym q), ap (λ f. tick_state f s (outcome d ahead m.yes s mark).state) (sym q), subst P (sym q) refl)
 
   -- what an accepted one does
-  pub accepted : (o : Outcome) → tick_fault s ≡ None → outcome d ahead m.yes s mark ≡ o
-      → (Ok o.answer ≡ tick d ahead m.yes s mark) × (o.state ≡ after_tick d ahead m.yes s mark)
-      × ((mid n : Meaning) → Asked (asked d ahead s) m mid → LetRest o.rests mid n → RuleAfter d ahead s mark m n)
-  accepted o q is = (
-    ap (λ x. Ok x.answer) (sym is) ∙ ap (λ f. tick_result f (outcome d ahead m.yes s mark).answer) (sym q),
-    ap (λ x. x.state) (sym is) ∙ ap (λ f. tick_state f s (outcome d ahead m.yes s mark).state) (sym q),
-    λ mid n grant rest.
-        let P : Option TickRefusal → Type 0 = λ f. rule_after_by f (Consulted d ahead s mark m n) m n in
-        let R : Outcome → Type 0 = λ x. LetRest x.rests mid n in
-        subst P (sym q) (record { mid = mid; grant = grant; rest = subst R (sym is) rest }),
-  )
+  pub accepted : (n : Meaning) → None ≡ tick_fault s → Consulted d ahead s mark m n
+      → (Ok (outcome d ahead m.yes s mark).answer ≡ tick d ahead m.yes s mark) × ((outcome d ahead m.yes s mark).state ≡ after_tick d ahead m.yes s mark) × RuleAfter d ahead s mark m n
+  accepted n q rule =
+      let P : Option TickRefusal → Type 0 = λ f. rule_after_by f (Consulted d ahead s mark m n) m n in
+      (ap (λ f. tick_result f (outcome d ahead m.yes s mark).answer) q, ap (λ f. tick_state f s (outcome d ahead m.yes s mark).state) q, subst P q rule)
+
+  pub consulted : (o : Outcome) → outcome d ahead m.yes s mark ≡ o → (mid n : Meaning) → Asked (asked d ahead s) m mid → LetRest o.rests mid n → Consulted d ahead s mark m n
+  consulted o is mid n grant rest =
+      let R : Outcome → Type 0 = λ x. LetRest x.rests mid n in
+      record { mid = mid; grant = grant; rest = subst R (sym is) rest }
 
 pub answer_is : (clock : Ticks) (task : Option ℕ) (mode mode' : Mode) (switched switched' : Bool) (dropped dropped' : ℕ) (ending ending' : Option Ending)
     → mode ≡ mode' → switched ≡ switched' → dropped ≡ dropped' → ending ≡ ending'

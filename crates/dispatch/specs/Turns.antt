@@ -1,14 +1,17 @@
 -- Candidates of slots, and the turn that is taken.
 use Rattle.std.specs.Prelude.{ℕ, ◌+◌, cond, List, Some, None, Option, nat_lt, slice_index_or}
+use Rattle.std.specs.Option.{option_map}
 use Rattle.tasks.specs.declared.task.Level.TheVariants.{High as HighLevel}
 use Rattle.table.specs.Verdict.{Draft}
 use Rattle.order.specs.declared.candidate.Candidate.{Candidate}
-use Rattle.order.specs.Orders.{candidate}
+use Rattle.order.specs.Orders.{Ahead, candidate}
 use Rattle.runs.specs.declared.answer.Mode.{Mode}
 use Rattle.runs.specs.declared.answer.Mode.TheVariants.{High, Low}
 use Rattle.runs.specs.declared.answer.Job.{Job}
 use Rattle.runs.specs.States.{the_task, is_high}
-use Rattle.runs.specs.Choices.{contender, Turn}
+use Rattle.runs.specs.Slots.{seat}
+use Rattle.runs.specs.Choices.{contender, Turn, turn}
+use Rattle.dispatch.specs.declared.state.Core.{Core}
 use Rattle.dispatch.specs.declared.turn.Taken.{Taken}
 
 -- the job of a slot below 32
@@ -26,6 +29,10 @@ turn_of_taken t = record { number = t.number; job = t.job }
 -- a turn with its task
 abbrev pub taken_of : Draft → Turn → Taken
 taken_of d t = record { number = t.number; task = the_task d t.number; job = t.job }
+
+-- the turn in a mode, with its task
+abbrev pub first_taken : Draft → Ahead → Mode → Core → Option Taken
+first_taken d ahead mode c = option_map (taken_of d) (turn ahead mode d (seat c.jobs))
 
 -- the turn that the rule is asked about: in low mode that of a high task
 abbrev pub asked_of : Mode → Taken → Option Turn

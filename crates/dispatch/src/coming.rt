@@ -1,40 +1,19 @@
-ghost use Rattle.std.specs.Prelude.{◌≡◌};
+ghost use Rattle.std.specs.Prelude.{◌≡◌, ℕ, not, ◌&&◌};
 ghost use Rattle.table.specs.Tables.{draft_of};
-ghost use Rattle.runs.specs.declared.call.Mark.{Mark};
-ghost use Rattle.runs.specs.Ticking.{tick as the_tick};
-ghost use Rattle.dispatch.specs.Cores.{Fine, state_of};
-ghost use Rattle.dispatch.specs.Questions.{task_run};
+ghost use Rattle.order.specs.Bits.{bit};
+ghost use Rattle.dispatch.specs.Cores.{drops_at};
 
-use super::choose::{choose, choose_pending};
+use super::dispatcher::Dispatcher;
 use super::drops::{past_assured, without};
-use super::parts::CLOCK_END;
-use super::state::Core;
-use super::steps::would_deny;
 use budget::rule::Rule;
 use order::tie_order::TieOrder;
-use runs::answer::Mode;
-use table::table::Table;
 
-// The task that the coming tick would run.
-pub(crate) fn coming_parts<R: Rule, O: TieOrder>(
-    table: &Table,
-    order: &O,
-    rule: &R,
-    core: &Core,
-) -> Option<u32>
-    requires { Fine (draft_of table.now) core.now }
-    ensures { (mark : Mark) → result ≡ task_run (the_tick (draft_of table.now) (O.TieOrder.ahead order.now) (R.Rule.meaning rule.now).yes (state_of core.now) mark) }
-{
-    if core.foreign {
-        return None;
+impl<'o, R: Rule, O: TieOrder> Dispatcher<'o, R, O> {
+    // The slots of the jobs that a switch would keep.
+    pub(crate) fn kept(&self) -> u32
+        ensures { (k : ℕ) → bit result k ≡ (bit self.now.core.pending k && not (drops_at (draft_of self.now.table) self.now.core.jobs k)) }
+    {
+        let past = past_assured(&self.table, &self.core.jobs, self.core.pending);
+        without(self.core.pending, past)
     }
-    if core.clock >= CLOCK_END {
-        return None;
-    }
-    let first = choose_pending(table, order, core, core.mode)?;
-    if !would_deny(rule, core.mode, first) {
-        return Some(first.number);
-    }
-    let kept = without(core.pending, past_assured(table, &core.jobs, core.pending));
-    choose(table, order, &core.jobs, Mode::High, kept).map(|again| again.number)
 }

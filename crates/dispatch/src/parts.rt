@@ -1,113 +1,105 @@
-ghost use Rattle.std.specs.Prelude.{◌≡◌, Some, Ok, Err};
+ghost use Rattle.std.specs.Prelude.{◌≡◌, ◌^◌, ◌<◌, Some};
 ghost use Rattle.std.specs.Bool.{then_some};
-ghost use Rattle.std.specs.Option.{option_map};
+ghost use Rattle.table.specs.Firsts.{refusal};
 ghost use Rattle.table.specs.Tables.{draft_of};
 ghost use Rattle.runs.specs.Masks.{mask};
 ghost use Rattle.runs.specs.Slots.{seat};
-ghost use Rattle.runs.specs.Choices.{turn as the_turn};
-ghost use Rattle.runs.specs.Ticking.{drops, switches, asked, Asked, tick as the_tick, after_tick, RuleAfter};
-ghost use Rattle.dispatch.specs.Cores.{Fine, state_of};
+ghost use Rattle.runs.specs.Ticking.{drops, switches, asked, Asked, tick_fault, outcome, Consulted};
+ghost use Rattle.dispatch.specs.Cores.{state_of};
 ghost use Rattle.dispatch.specs.Steps.{running};
-ghost use Rattle.dispatch.specs.Turns.{taken_of};
+ghost use Rattle.dispatch.specs.Turns.{first_taken};
 
-use super::choose::choose_pending;
-use super::state::Core;
-use super::steps::{denied, serve, settle, switch};
+use super::dispatcher::Dispatcher;
+use super::steps::denied;
 use super::turn::Taken;
 use budget::rule::Rule;
 use order::tie_order::TieOrder;
 use runs::answer::{Answer, Mode};
 use runs::call::Mark;
 use runs::refusal::TickRefusal;
-use table::table::Table;
 use tasks::units::Ticks;
 
 // At this clock every tick is refused.
-pub(crate) const CLOCK_END: Ticks = Ticks(1_099_511_627_776);
+const CLOCK_END: Ticks = Ticks(1_099_511_627_776);
 
 // The turn of a tick, once the rule was asked.
 #[derive(Clone, Copy)]
 pub(crate) struct Decided {
     pub(crate) taken: Taken,
-    // the slots that the switch dropped, if the tick switches
+    // the tasks that the switch dropped, if the tick switches
     pub(crate) dropped: Option<u32>,
 }
 
-// Asks the rule about the first job; where it is denied, the tick switches and the choice is made afresh.
-fn decide<R: Rule, O: TieOrder>(
-    table: &Table,
-    order: &O,
-    rule: &mut R,
-    core: &mut Core,
-    first: Taken,
-) -> Decided
-    requires fine { Fine (draft_of table.now) core.old }
-    requires first { Some first ≡ option_map (taken_of (draft_of table.now)) (the_turn (O.TieOrder.ahead order.now) core.old.mode (draft_of table.now) (seat core.old.jobs)) }
-    ensures dropped { result.dropped ≡ then_some (switches (draft_of table.now) (O.TieOrder.ahead order.now) (R.Rule.meaning rule.old).yes (state_of core.old)) (mask 32 (drops (draft_of table.now) (seat core.old.jobs))) }
-    ensures state { state_of core.new ≡ running (draft_of table.now) (switches (draft_of table.now) (O.TieOrder.ahead order.now) (R.Rule.meaning rule.old).yes (state_of core.old)) (state_of core.old) }
-    ensures taken { Some result.taken ≡ option_map (taken_of (draft_of table.now)) (the_turn (O.TieOrder.ahead order.now) core.new.mode (draft_of table.now) (seat core.new.jobs)) }
-    ensures grant { Asked (asked (draft_of table.now) (O.TieOrder.ahead order.now) (state_of core.old)) (R.Rule.meaning rule.old) (R.Rule.meaning rule.new) }
-    ensures policy { R.Rule.policy rule.new ≡ R.Rule.policy rule.old }
-    ensures fine { Fine (draft_of table.now) core.new }
-{
-    if !denied(rule, core.mode, first) {
-        return Decided {
-            taken: first,
-            dropped: None,
-        };
+impl<'o, R: Rule, O: TieOrder> Dispatcher<'o, R, O> {
+    // The first refusal of a tick, if there is one.
+    pub(crate) fn check_tick(&self) -> Result<(), TickRefusal>
+        ensures { refusal result ≡ tick_fault (state_of self.now.core) }
+    {
+        if self.core.foreign {
+            return Err(TickRefusal::ForeignRule);
+        }
+        if self.core.clock >= CLOCK_END {
+            return Err(TickRefusal::ClockEnd(self.core.clock));
+        }
+        Ok(())
     }
-    let dropped = switch(table, core);
-    let again = choose_pending(table, order, core, Mode::High).unwrap();
-    Decided {
-        taken: again,
-        dropped: Some(dropped),
-    }
-}
 
-// One tick of a dispatcher's parts.
-pub(crate) fn tick_parts<R: Rule, O: TieOrder>(
-    table: &Table,
-    order: &O,
-    rule: &mut R,
-    core: &mut Core,
-    mark: Mark,
-) -> Result<Answer, TickRefusal>
-    requires { Fine (draft_of table.now) core.old }
-    ensures answer { result ≡ the_tick (draft_of table.now) (O.TieOrder.ahead order.now) (R.Rule.meaning rule.old).yes (state_of core.old) mark }
-    ensures state { state_of core.new ≡ after_tick (draft_of table.now) (O.TieOrder.ahead order.now) (R.Rule.meaning rule.old).yes (state_of core.old) mark }
-    ensures rule { RuleAfter (draft_of table.now) (O.TieOrder.ahead order.now) (state_of core.old) mark (R.Rule.meaning rule.old) (R.Rule.meaning rule.new) }
-    ensures policy { R.Rule.policy rule.new ≡ R.Rule.policy rule.old }
-    ensures fine { Fine (draft_of table.now) core.new }
-    ensures same { elim result [ Ok a ↦ Unit {0} | Err e ↦ (core.new ≡ core.old) × (rule.new ≡ rule.old) ] }
-{
-    if core.foreign {
-        return Err(TickRefusal::ForeignRule);
+    // Asks the rule about the first job; where it is denied, the tick switches and the choice is made afresh.
+    fn decide(&mut self, first: Taken) -> Decided
+        requires { Some first ≡ first_taken (draft_of self.old.table) (O.TieOrder.ahead self.old.order.now) self.old.core.mode self.old.core }
+        ensures fixed { (self.new.table ≡ self.old.table) × (self.new.order.now ≡ self.old.order.now) }
+        ensures dropped { result.dropped ≡ then_some (switches (draft_of self.old.table) (O.TieOrder.ahead self.old.order.now) (R.Rule.meaning self.old.rule).yes (state_of self.old.core)) (mask 32 (drops (draft_of self.old.table) (seat self.old.core.jobs))) }
+        ensures state { state_of self.new.core ≡ running (draft_of self.old.table) (switches (draft_of self.old.table) (O.TieOrder.ahead self.old.order.now) (R.Rule.meaning self.old.rule).yes (state_of self.old.core)) (state_of self.old.core) }
+        ensures taken { Some result.taken ≡ first_taken (draft_of self.new.table) (O.TieOrder.ahead self.new.order.now) self.new.core.mode self.new.core }
+        ensures grant { Asked (asked (draft_of self.old.table) (O.TieOrder.ahead self.old.order.now) (state_of self.old.core)) (R.Rule.meaning self.old.rule) (R.Rule.meaning self.new.rule) }
+        ensures policy { R.Rule.policy self.new.rule ≡ R.Rule.policy self.old.rule }
+    {
+        if !denied(&mut self.rule, self.core.mode, first) {
+            return Decided {
+                taken: first,
+                dropped: None,
+            };
+        }
+        let dropped = self.switch();
+        let again = self.choose_pending(Mode::High).unwrap();
+        Decided {
+            taken: again,
+            dropped: Some(dropped),
+        }
     }
-    if core.clock >= CLOCK_END {
-        return Err(TickRefusal::ClockEnd(core.clock));
-    }
-    let clock = core.clock;
-    let Some(first) = choose_pending(table, order, core, core.mode) else {
-        core.clock.0 += 1;
-        return Ok(Answer {
+
+    // A tick that is not refused.
+    pub(crate) fn advance(&mut self, mark: Mark) -> Answer
+        requires { self.old.core.clock.0 < 2 ^ 40 }
+        ensures fixed { (self.new.table ≡ self.old.table) × (self.new.order.now ≡ self.old.order.now) }
+        ensures answer { result ≡ (outcome (draft_of self.old.table) (O.TieOrder.ahead self.old.order.now) (R.Rule.meaning self.old.rule).yes (state_of self.old.core) mark).answer }
+        ensures state { state_of self.new.core ≡ (outcome (draft_of self.old.table) (O.TieOrder.ahead self.old.order.now) (R.Rule.meaning self.old.rule).yes (state_of self.old.core) mark).state }
+        ensures rule { Consulted (draft_of self.old.table) (O.TieOrder.ahead self.old.order.now) (state_of self.old.core) mark (R.Rule.meaning self.old.rule) (R.Rule.meaning self.new.rule) }
+        ensures policy { R.Rule.policy self.new.rule ≡ R.Rule.policy self.old.rule }
+    {
+        let clock = self.core.clock;
+        let Some(first) = self.choose_pending(self.core.mode) else {
+            self.core.clock.0 += 1;
+            return Answer {
+                clock,
+                task: None,
+                mode: self.core.mode,
+                switched: false,
+                dropped: 0,
+                ending: None,
+            };
+        };
+        let decided = self.decide(first);
+        let mode = self.core.mode;
+        let ending = self.serve(decided.taken, mark);
+        self.settle();
+        Answer {
             clock,
-            task: None,
-            mode: core.mode,
-            switched: false,
-            dropped: 0,
-            ending: None,
-        });
-    };
-    let decided = decide(table, order, rule, core, first);
-    let mode = core.mode;
-    let ending = serve(table, core, decided.taken, mark);
-    settle(table, rule, core);
-    Ok(Answer {
-        clock,
-        task: Some(decided.taken.number),
-        mode,
-        switched: decided.dropped.is_some(),
-        dropped: decided.dropped.unwrap_or(0),
-        ending,
-    })
+            task: Some(decided.taken.number),
+            mode,
+            switched: decided.dropped.is_some(),
+            dropped: decided.dropped.unwrap_or(0),
+            ending,
+        }
+    }
 }

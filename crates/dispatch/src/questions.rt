@@ -12,10 +12,10 @@ ghost use Rattle.runs.specs.Produced.{Kind, Produced};
 ghost use Rattle.dispatch.specs.Cores.{state_of};
 ghost use Rattle.dispatch.specs.Questions.{task_run, age_at, plain, is_pending, lowest_task};
 
-use super::coming::coming_parts;
 use super::dispatcher::Dispatcher;
 use super::lookup::at;
 use super::lowest::lowest_task;
+use super::steps::would_deny;
 use budget::rule::{Metered, Rule};
 use order::mask::slots_in;
 use order::tie_order::TieOrder;
@@ -67,7 +67,13 @@ impl<'o, R: Rule, O: TieOrder> Dispatcher<'o, R, O> {
     pub fn coming(&self) -> Option<u32>
         ensures { (mark : Mark) → result ≡ task_run (the_tick (draft_of self.now.table) (O.TieOrder.ahead self.now.order.now) (R.Rule.meaning self.now.rule).yes (state_of self.now.core) mark) }
     {
-        coming_parts(&self.table, self.order, &self.rule, &self.core)
+        self.check_tick().ok()?;
+        let first = self.choose_pending(self.core.mode)?;
+        if !would_deny(&self.rule, self.core.mode, first) {
+            return Some(first.number);
+        }
+        self.choose(Mode::High, self.kept())
+            .map(|again| again.number)
     }
 
     // The tasks with a pending job: bit i - 1 for task i.

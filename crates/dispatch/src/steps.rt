@@ -3,34 +3,36 @@ ghost use Rattle.std.specs.Bool.{then_some};
 ghost use Rattle.table.specs.Tables.{draft_of};
 ghost use Rattle.runs.specs.Masks.{mask};
 ghost use Rattle.runs.specs.Slots.{seat};
-ghost use Rattle.runs.specs.States.{the_task};
 ghost use Rattle.runs.specs.Ticking.{drops, ending as the_ending, falls_short as is_short, none_pending, LetRest, Asked, denied as is_denied};
-ghost use Rattle.dispatch.specs.Cores.{Fine, state_of};
+ghost use Rattle.dispatch.specs.Cores.{state_of};
 ghost use Rattle.dispatch.specs.Steps.{running, served_state, settled, Writes, rest_of};
-ghost use Rattle.dispatch.specs.Turns.{turn_of_taken, asked_of};
+ghost use Rattle.dispatch.specs.Turns.{turn_of_taken, asked_of, first_taken};
 
+use super::dispatcher::Dispatcher;
 use super::drops::{clear, past_assured, without};
 use super::lookup::is_high;
 use super::state::Core;
 use super::turn::Taken;
 use budget::rule::Rule;
 use order::mask::{with_slot, without_slot};
+use order::tie_order::TieOrder;
 use runs::answer::{Ending, Job, Mode};
 use runs::call::Mark;
-use table::table::Table;
 use tasks::task::{Criticality, Task};
 use tasks::units::Ticks;
 
-// Writes the job of a slot.
-pub(crate) fn write(core: &mut Core, slot: u32, job: Option<Job>)
-    requires { slot < 32 }
-    ensures { Writes core.old core.new slot job }
-{
-    core.pending = match job {
-        Some(_) => with_slot(core.pending, slot),
-        None => without_slot(core.pending, slot),
-    };
-    core.jobs[slot as usize] = job;
+impl Core {
+    // Writes the job of a slot.
+    pub(crate) fn write(&mut self, slot: u32, job: Option<Job>)
+        requires { slot < 32 }
+        ensures { Writes self.old self.new slot job }
+    {
+        self.pending = match job {
+            Some(_) => with_slot(self.pending, slot),
+            None => without_slot(self.pending, slot),
+        };
+        self.jobs[slot as usize] = job;
+    }
 }
 
 // Whether the rule is asked about the first job: in low mode, if it is high.
@@ -54,20 +56,6 @@ pub(crate) fn would_deny<R: Rule>(rule: &R, mode: Mode, first: Taken) -> bool
     ensures { result ≡ is_denied (R.Rule.meaning rule.now).yes (asked_of mode first) }
 {
     asks(mode, first) && !rule.ask(first.number, first.job.run)
-}
-
-// The mode becomes high, and the low jobs that have had their assured part are dropped.
-pub(crate) fn switch(table: &Table, core: &mut Core) -> u32
-    requires { Fine (draft_of table.now) core.old }
-    ensures dropped { result ≡ mask 32 (drops (draft_of table.now) (seat core.old.jobs)) }
-    ensures state { state_of core.new ≡ running (draft_of table.now) true (state_of core.old) }
-    ensures fine { Fine (draft_of table.now) core.new }
-{
-    let dropped = past_assured(table, &core.jobs, core.pending);
-    clear(&mut core.jobs, dropped);
-    core.pending = without(core.pending, dropped);
-    core.mode = Mode::High;
-    dropped
 }
 
 // Whether a job in this mode has had all that it gets.
@@ -99,37 +87,46 @@ fn rest_of(ending: Option<Ending>, arrival: Ticks, run: Ticks) -> Option<Job>
     ending.is_none().then_some(Job { arrival, run })
 }
 
-// The job has its tick, and ends or goes on.
-pub(crate) fn serve(table: &Table, core: &mut Core, taken: Taken, mark: Mark) -> Option<Ending>
-    requires fine { Fine (draft_of table.now) core.old }
-    requires task { taken.task ≡ the_task (draft_of table.now) taken.number }
-    requires pending { seat core.old.jobs taken.number ≡ Some taken.job }
-    requires early { core.old.clock.0 < 2 ^ 40 }
-    ensures ending { result ≡ the_ending taken.task core.old.mode mark (taken.job.run.0 + 1) }
-    ensures state { state_of core.new ≡ served_state (draft_of table.now) mark (state_of core.old) (turn_of_taken taken) }
-    ensures fine { Fine (draft_of table.now) core.new }
-{
-    let run = Ticks(taken.job.run.0 + 1);
-    let ending = ending(taken.task, core.mode, mark, run);
-    write(
-        core,
-        taken.number - 1,
-        rest_of(ending, taken.job.arrival, run),
-    );
-    core.clock.0 += 1;
-    ending
-}
+impl<'o, R: Rule, O: TieOrder> Dispatcher<'o, R, O> {
+    // The mode becomes high, and the low jobs that have had their assured part are dropped.
+    pub(crate) fn switch(&mut self) -> u32
+        ensures fixed { (self.new.table ≡ self.old.table) × (self.new.order.now ≡ self.old.order.now) × (self.new.rule ≡ self.old.rule) }
+        ensures dropped { result ≡ mask 32 (drops (draft_of self.old.table) (seat self.old.core.jobs)) }
+        ensures state { state_of self.new.core ≡ running (draft_of self.old.table) true (state_of self.old.core) }
+    {
+        let dropped = past_assured(&self.table, &self.core.jobs, self.core.pending);
+        clear(&mut self.core.jobs, dropped);
+        self.core.pending = without(self.core.pending, dropped);
+        self.core.mode = Mode::High;
+        dropped
+    }
 
-// With no job pending the mode is low and the rule rests.
-pub(crate) fn settle<R: Rule>(table: &Table, rule: &mut R, core: &mut Core)
-    requires { Fine (draft_of table.now) core.old }
-    ensures state { state_of core.new ≡ settled (state_of core.old) }
-    ensures rest { LetRest (none_pending (seat core.old.jobs)) (R.Rule.meaning rule.old) (R.Rule.meaning rule.new) }
-    ensures policy { R.Rule.policy rule.new ≡ R.Rule.policy rule.old }
-    ensures fine { Fine (draft_of table.now) core.new }
-{
-    if core.pending == 0 {
-        core.mode = Mode::Low;
-        rule.rest();
+    // The job has its tick, and ends or goes on.
+    pub(crate) fn serve(&mut self, taken: Taken, mark: Mark) -> Option<Ending>
+        requires first { Some taken ≡ first_taken (draft_of self.old.table) (O.TieOrder.ahead self.old.order.now) self.old.core.mode self.old.core }
+        requires early { self.old.core.clock.0 < 2 ^ 40 }
+        ensures fixed { (self.new.table ≡ self.old.table) × (self.new.order.now ≡ self.old.order.now) × (self.new.rule ≡ self.old.rule) }
+        ensures ending { result ≡ the_ending taken.task self.old.core.mode mark (taken.job.run.0 + 1) }
+        ensures state { state_of self.new.core ≡ served_state (draft_of self.old.table) mark (state_of self.old.core) (turn_of_taken taken) }
+    {
+        let run = Ticks(taken.job.run.0 + 1);
+        let ending = ending(taken.task, self.core.mode, mark, run);
+        let rest = rest_of(ending, taken.job.arrival, run);
+        self.core.write(taken.number - 1, rest);
+        self.core.clock.0 += 1;
+        ending
+    }
+
+    // With no job pending the mode is low and the rule rests.
+    pub(crate) fn settle(&mut self)
+        ensures fixed { (self.new.table ≡ self.old.table) × (self.new.order.now ≡ self.old.order.now) }
+        ensures state { state_of self.new.core ≡ settled (state_of self.old.core) }
+        ensures rest { LetRest (none_pending (seat self.old.core.jobs)) (R.Rule.meaning self.old.rule) (R.Rule.meaning self.new.rule) }
+        ensures policy { R.Rule.policy self.new.rule ≡ R.Rule.policy self.old.rule }
+    {
+        if self.core.pending == 0 {
+            self.core.mode = Mode::Low;
+            self.rule.rest();
+        }
     }
 }

@@ -12,9 +12,7 @@ keeps : (g : given.Over) (x : g.row.R.Denot) → Keeps lawful (g.R.Rule.meaning 
 keeps g x = record { law = record { bounded = g.met.R.Rule.bounded x; silent = g.met.R.Rule.silent x; fits = g.met.R.Rule.fits x }; exactly = tt }
 
 pub invariant_of-result : goal.invariant_of-result
-invariant_of-result g c =
-    let f = c.empty.ensures.fine (draft_of c.args.table.now) in
-    record { agrees = f.agrees; owned = f.owned; arrived = f.arrived; run = f.run; lasts = f.lasts; clocked = f.clocked; slots = f.slots; seats = f.seats }
+invariant_of-result g c = record { fine = c.empty.ensures.fine (draft_of c.args.table.now) }
 
 pub returns : goal.returns
 returns g c =

@@ -4,26 +4,26 @@ use Rattle.table.specs.Tables.{draft_of}
 use Rattle.order.specs.Orders.{TieLaws}
 use Rattle.dispatch.specs.Turns.{taken_of}
 use Rattle.dispatch.proofs.Chosen.{none_turn, first_turn, slot_below}
-use Rattle.dispatch.proofs.choose.choose.Given as given
-use Rattle.dispatch.proofs.choose.choose.Goals as goal
+use Rattle.dispatch.proofs.dispatcher.Dispatcher.choose.Given as given
+use Rattle.dispatch.proofs.dispatcher.Dispatcher.choose.Goals as goal
 
 laws : (g : given.Over) (x : g.row.O.Denot) → TieLaws (g.O.TieOrder.ahead x)
 laws g x = record { one_way = g.met.O.TieOrder.one_way x; transitive = g.met.O.TieOrder.transitive x; refines_deadlines = g.met.O.TieOrder.refines_deadlines x }
 
 pub returns-in_err-slot : goal.returns-in_err-slot
 returns-in_err-slot g c =
-    let d = draft_of c.args.table.now in
+    let d = draft_of c.args.self.now.table in
     c.from_residual.ensures
-    ∙ ap (option_map (taken_of d)) (sym (none_turn (g.O.TieOrder.ahead c.args.order.now) (laws g c.args.order.now) c.args.mode d c.args.mask c.args.jobs.now (omega arith) c.requires.offered c.in_err-slot.ensures.chosen))
+    ∙ ap (option_map (taken_of d)) (sym (none_turn (g.O.TieOrder.ahead c.args.self.now.order.now) (laws g c.args.self.now.order.now) c.args.mode d c.args.mask c.args.self.now.core.jobs (omega arith) c.requires c.in_err-slot.ensures.chosen))
 
 pub overflow_add-row : goal.overflow_add-row
 overflow_add-row g c = let low : c.in_ok-slot.slot < 32 = slot_below c.args.mask c.in_ok-slot.slot (omega arith) c.in_ok-slot.ensures.chosen.is_offered in omega arith
 
 pub unwrap-requires : goal.unwrap-requires
-unwrap-requires g c = ap is_some c.at.ensures ∙ c.requires.offered c.in_ok-slot.slot c.in_ok-slot.ensures.chosen.is_offered
+unwrap-requires g c = ap is_some c.at.ensures ∙ c.requires c.in_ok-slot.slot c.in_ok-slot.ensures.chosen.is_offered
 
 pub returns : goal.returns
 returns g c =
-    let d = draft_of c.args.table.now in
+    let d = draft_of c.args.self.now.table in
     ap (λ t. Some (record { number = c.in_ok-slot.slot + 1; task = t; job = c.unwrap.result })) c.task.ensures.is
-    ∙ ap (option_map (taken_of d)) (sym (first_turn (g.O.TieOrder.ahead c.args.order.now) (laws g c.args.order.now) c.args.mode d c.args.mask c.args.jobs.now (omega arith) c.requires.offered c.in_ok-slot.slot c.unwrap.result c.in_ok-slot.ensures.chosen (sym c.at.ensures ∙ c.unwrap.ensures)))
+    ∙ ap (option_map (taken_of d)) (sym (first_turn (g.O.TieOrder.ahead c.args.self.now.order.now) (laws g c.args.self.now.order.now) c.args.mode d c.args.mask c.args.self.now.core.jobs (omega arith) c.requires c.in_ok-slot.slot c.unwrap.result c.in_ok-slot.ensures.chosen (sym c.at.ensures ∙ c.unwrap.ensures)))
