@@ -1,11 +1,9 @@
 -- Turns: whose they are, who is asked, and that a switch leaves one.
-use Rattle.std.proofs.Common.{◌≡◌, ℕ, ◌^◌, ◌<◌, Bool, true, false, cond, not, [], ◌∷◌, Some, None, Ok, Err, Option, sym, refl, ap, ◌∙◌, subst, arith}
+use Rattle.std.proofs.Common.{◌≡◌, ℕ, Bool, true, false, cond, not, Some, None, Ok, Err, Option, sym, refl, ap, ◌∙◌, subst, arith}
 use Rattle.std.specs.Option.{option_map}
-use Rattle.std.proofs.lemmas.Bool.{lt-ltb}
 use Rattle.tasks.specs.declared.units.Ticks.{Ticks}
 use Rattle.tasks.specs.declared.task.Criticality.{Criticality}
 use Rattle.tasks.specs.declared.task.Criticality.TheVariants.{High as HighTask, Low as LowTask}
-use Rattle.table.specs.Firsts.{first_of, unless}
 use Rattle.table.specs.Verdict.{Draft}
 use Rattle.budget.specs.Meaning.{Meaning}
 use Rattle.order.specs.declared.candidate.Candidate.{Candidate}
@@ -17,10 +15,9 @@ use Rattle.runs.specs.declared.answer.Ending.{Ending}
 use Rattle.runs.specs.declared.answer.Answer.{Answer}
 use Rattle.runs.specs.declared.call.Mark.{Mark}
 use Rattle.runs.specs.declared.refusal.TickRefusal.{TickRefusal}
-use Rattle.runs.specs.declared.refusal.TickRefusal.TheVariants.{ForeignRule}
 use Rattle.runs.specs.States.{State, the_task, rank, is_high, within}
 use Rattle.runs.specs.Choices.{Turn, turn, turn_of, turn_by, chosen}
-use Rattle.runs.specs.Ticking.{asked_by, asked, denied, switches, drops_by, kept, running_mode, running_jobs, tick_fault, outcome_by, outcome_at, outcome, Outcome, end_fault, tick_result, tick_state, tick, after_tick, Asked, LetRest, Consulted, rule_after_by, RuleAfter}
+use Rattle.runs.specs.Ticking.{asked_by, asked, denied, switches, drops_by, kept, running_mode, running_jobs, tick_fault, outcome_by, outcome_at, outcome, Outcome, tick_result, tick_state, tick, after_tick, Asked, LetRest, Consulted, rule_after_by, RuleAfter}
 use Rattle.runs.specs.Slots.{seat}
 use Rattle.dispatch.specs.declared.state.Core.{Core}
 use Rattle.dispatch.specs.declared.turn.Taken.{Taken}

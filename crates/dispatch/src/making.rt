@@ -1,20 +1,17 @@
 ghost use Rattle.std.specs.Prelude.{◌≡◌, []};
 ghost use Rattle.table.specs.Tables.{draft_of};
 ghost use Rattle.table.specs.Firsts.{first_below};
-ghost use Rattle.table.specs.Verdict.{Draft};
 ghost use Rattle.budget.specs.Meaning.{Rested};
 ghost use Rattle.runs.specs.States.{new_state, foreign_rule, foreign_weight, is_none, Judged};
 ghost use Rattle.runs.specs.Produced.{Kind, lawful, Keeps, Produced};
-ghost use Rattle.dispatch.specs.Cores.{Fine, state_of};
+ghost use Rattle.dispatch.specs.Cores.{state_of};
 
 use super::dispatcher::Dispatcher;
 use super::state::Core;
 use budget::rule::Rule;
 use budget::weights::rule_weight;
 use order::tie_order::TieOrder;
-use runs::answer::Mode;
 use table::table::Table;
-use tasks::units::Ticks;
 
 // Whether the rule has the table's weight for each number from 1 to 32.
 fn weights_agree<R: Rule>(table: &Table, rule: &R) -> bool
@@ -28,22 +25,6 @@ fn is_foreign<R: Rule>(table: &Table, rule: &R) -> bool
     ensures { result ≡ foreign_rule (draft_of table.now) (R.Rule.meaning rule.now) }
 {
     !weights_agree(table, rule) || rule.total() != table.total()
-}
-
-// Nothing is pending, and nothing has arrived.
-fn empty(foreign: bool) -> Core
-    ensures foreign { result.foreign ≡ foreign }
-    ensures state { state_of result ≡ new_state foreign }
-    ensures fine { (d : Draft) → Fine d result }
-{
-    Core {
-        foreign,
-        clock: Ticks(0),
-        mode: Mode::Low,
-        pending: 0,
-        jobs: [None; 32],
-        last: [None; 32],
-    }
 }
 
 impl<'o, R: Rule, O: TieOrder> Dispatcher<'o, R, O> {
@@ -63,7 +44,7 @@ impl<'o, R: Rule, O: TieOrder> Dispatcher<'o, R, O> {
             table: *table,
             order,
             rule,
-            core: empty(foreign),
+            core: Core::new(foreign),
         }
     }
 }

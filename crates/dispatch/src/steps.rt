@@ -1,39 +1,24 @@
-ghost use Rattle.std.specs.Prelude.{◌≡◌, ◌+◌, ◌^◌, ◌<◌, true, Some};
+ghost use Rattle.std.specs.Prelude.{◌≡◌, ℕ, ◌+◌, ◌^◌, ◌<◌, true, not, ◌&&◌, Some};
 ghost use Rattle.std.specs.Bool.{then_some};
 ghost use Rattle.table.specs.Tables.{draft_of};
+ghost use Rattle.order.specs.Bits.{bit};
 ghost use Rattle.runs.specs.Masks.{mask};
 ghost use Rattle.runs.specs.Slots.{seat};
 ghost use Rattle.runs.specs.Ticking.{drops, ending as the_ending, falls_short as is_short, none_pending, LetRest, Asked, denied as is_denied};
-ghost use Rattle.dispatch.specs.Cores.{state_of};
-ghost use Rattle.dispatch.specs.Steps.{running, served_state, settled, Writes, rest_of};
+ghost use Rattle.dispatch.specs.Cores.{state_of, drops_at};
+ghost use Rattle.dispatch.specs.Steps.{running, served_state, settled, rest_of};
 ghost use Rattle.dispatch.specs.Turns.{turn_of_taken, asked_of, first_taken};
 
 use super::dispatcher::Dispatcher;
 use super::drops::{clear, past_assured, without};
 use super::lookup::is_high;
-use super::state::Core;
 use super::turn::Taken;
 use budget::rule::Rule;
-use order::mask::{with_slot, without_slot};
 use order::tie_order::TieOrder;
 use runs::answer::{Ending, Job, Mode};
 use runs::call::Mark;
 use tasks::task::{Criticality, Task};
 use tasks::units::Ticks;
-
-impl Core {
-    // Writes the job of a slot.
-    pub(crate) fn write(&mut self, slot: u32, job: Option<Job>)
-        requires { slot < 32 }
-        ensures { Writes self.old self.new slot job }
-    {
-        self.pending = match job {
-            Some(_) => with_slot(self.pending, slot),
-            None => without_slot(self.pending, slot),
-        };
-        self.jobs[slot as usize] = job;
-    }
-}
 
 // Whether the rule is asked about the first job: in low mode, if it is high.
 fn asks(mode: Mode, first: Taken) -> bool
@@ -99,6 +84,14 @@ impl<'o, R: Rule, O: TieOrder> Dispatcher<'o, R, O> {
         self.core.pending = without(self.core.pending, dropped);
         self.core.mode = Mode::High;
         dropped
+    }
+
+    // The slots of the jobs that a switch would keep.
+    pub(crate) fn kept(&self) -> u32
+        ensures { (k : ℕ) → bit result k ≡ (bit self.now.core.pending k && not (drops_at (draft_of self.now.table) self.now.core.jobs k)) }
+    {
+        let past = past_assured(&self.table, &self.core.jobs, self.core.pending);
+        without(self.core.pending, past)
     }
 
     // The job has its tick, and ends or goes on.

@@ -6,7 +6,7 @@ use Rattle.budget.specs.Meaning.{Meaning}
 use Rattle.runs.specs.States.{State, the_task}
 use Rattle.runs.specs.Masks.{mask}
 use Rattle.runs.specs.Choices.{turn}
-use Rattle.runs.specs.Ticking.{switches, drops, asked, outcome, outcome_by, running_mode, running_jobs, ending, none_pending, LetRest}
+use Rattle.runs.specs.Ticking.{switches, drops, outcome_by, running_mode, running_jobs, ending, none_pending, LetRest}
 use Rattle.dispatch.specs.Cores.{state_of}
 use Rattle.dispatch.specs.Steps.{running, served_state, settled}
 use Rattle.dispatch.specs.Turns.{turn_of_taken}

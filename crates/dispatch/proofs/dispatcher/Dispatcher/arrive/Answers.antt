@@ -1,7 +1,6 @@
 use Rattle.std.proofs.Common.{◌≡◌, suc, ◌-◌, ◌<◌, ◌≤◌, length, get_or, set, Some, None, Option, Ok, Err, rules, sym, refl, ap, ◌∙◌, arith, length-set}
-use Rattle.order.specs.Orders.{Ahead, TieLaws}
+use Rattle.order.specs.Orders.{TieLaws}
 use Rattle.budget.specs.Meaning.{Meaning}
-use Rattle.runs.specs.Produced.{Kind}
 use Rattle.tasks.specs.declared.units.Ticks.{Ticks}
 use Rattle.table.specs.Tables.{draft_of}
 use Rattle.table.proofs.Tables.{table_accepted}

@@ -1,7 +1,6 @@
 use Rattle.std.proofs.Common.{◌≡◌, suc, ◌+◌, ◌-◌, ◌<◌, length, get_or, None, sym, refl, ap, ◌∙◌, arith}
 use Rattle.table.specs.Tables.{draft_of}
 use Rattle.table.specs.Tasks.{ticks}
-use Rattle.order.specs.Orders.{Ahead}
 use Rattle.runs.specs.Slots.{seat}
 use Rattle.runs.specs.States.{put, the_task}
 use Rattle.runs.specs.Ticking.{ending, served}

@@ -1,4 +1,4 @@
-use Rattle.std.proofs.Common.{◌≡◌, Err, Ok, sym, refl, ap, ◌∙◌, rules}
+use Rattle.std.proofs.Common.{◌≡◌, Err, Ok, sym, ap, ◌∙◌, rules}
 use Rattle.table.specs.Tables.{draft_of}
 use Rattle.table.proofs.Tables.{table_accepted}
 use Rattle.order.specs.Orders.{Ahead, TieLaws}
