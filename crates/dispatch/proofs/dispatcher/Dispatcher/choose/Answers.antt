@@ -1,9 +1,9 @@
-use Rattle.std.proofs.Common.{◌+◌, ◌<◌, is_some, Some, sym, ap, ◌∙◌, arith}
+use Rattle.std.proofs.Common.{◌+◌, Some, sym, ap, ◌∙◌, arith}
 use Rattle.std.specs.Option.{option_map}
 use Rattle.table.specs.Tables.{draft_of}
 use Rattle.order.specs.Orders.{TieLaws}
 use Rattle.dispatch.specs.Turns.{taken_of}
-use Rattle.dispatch.proofs.Chosen.{none_turn, first_turn, slot_below}
+use Rattle.dispatch.proofs.Chosen.{none_turn, first_turn}
 use Rattle.dispatch.proofs.dispatcher.Dispatcher.choose.Given as given
 use Rattle.dispatch.proofs.dispatcher.Dispatcher.choose.Goals as goal
 
@@ -15,12 +15,6 @@ returns-in_err-slot g c =
     let d = draft_of c.args.self.now.table in
     c.from_residual.ensures
     ∙ ap (option_map (taken_of d)) (sym (none_turn (g.O.TieOrder.ahead c.args.self.now.order.now) (laws g c.args.self.now.order.now) c.args.mode d c.args.mask c.args.self.now.core.jobs (omega arith) c.requires c.in_err-slot.ensures.chosen))
-
-pub overflow_add-row : goal.overflow_add-row
-overflow_add-row g c = let low : c.in_ok-slot.slot < 32 = slot_below c.args.mask c.in_ok-slot.slot (omega arith) c.in_ok-slot.ensures.chosen.is_offered in omega arith
-
-pub unwrap-requires : goal.unwrap-requires
-unwrap-requires g c = ap is_some c.at.ensures ∙ c.requires c.in_ok-slot.slot c.in_ok-slot.ensures.chosen.is_offered
 
 pub returns : goal.returns
 returns g c =

@@ -1,10 +1,9 @@
-use Rattle.std.proofs.Common.{◌≡◌, ℕ, Bool, true, false, not, ◌&&◌, Some, None, Ok, Err, Option, Result, sym, refl, ap, ◌∙◌, arith, rules}
+use Rattle.std.proofs.Common.{◌≡◌, ℕ, Bool, true, false, Some, None, Ok, Err, Option, Result, sym, refl, ap, ◌∙◌, arith, rules}
 use Rattle.std.specs.Option.{option_map}
 use Rattle.std.specs.Result.{result_ok}
 use Rattle.table.specs.Firsts.{refusal}
 use Rattle.table.specs.Tables.{draft_of}
 use Rattle.table.specs.Verdict.{Draft}
-use Rattle.order.specs.Bits.{bit}
 use Rattle.order.specs.Orders.{Ahead}
 use Rattle.budget.specs.Meaning.{Meaning}
 use Rattle.runs.specs.declared.answer.Job.{Job}
@@ -14,7 +13,7 @@ use Rattle.runs.specs.declared.call.Mark.{Mark}
 use Rattle.runs.specs.States.{State}
 use Rattle.runs.specs.Choices.{Turn, turn}
 use Rattle.runs.specs.Ticking.{switches, denied, kept, running_mode, running_jobs, tick_fault, outcome_by, outcome, tick_result, tick}
-use Rattle.dispatch.specs.Cores.{state_of, drops_at}
+use Rattle.dispatch.specs.Cores.{state_of}
 use Rattle.dispatch.specs.Questions.{task_run}
 use Rattle.dispatch.specs.Turns.{turn_of_taken, taken_of}
 use Rattle.dispatch.proofs.Asked.{masked_kept}
@@ -56,15 +55,6 @@ returns-then-not-would_deny g c mark =
     let calm : switches d ahead m.yes s ≡ false = ap (denied m.yes) (asked_first d ahead s f c.in_ok-first.ensures) ∙ sym c.would_deny.ensures ∙ c.if-not-would_deny.true in
     let q = passed c.check_tick.result c.in_ok-ok.field-0 (sym c.in_ok-ok.ensures.value) ∙ c.check_tick.ensures in
     runs d ahead m s q false (Some (turn_of_taken f)) calm first.0 mark
-
-left : (a b : Bool) → (a && not b) ≡ true → a ≡ true
-left true b e = refl
-left false b e = e
-
-pub choose-requires : goal.choose-requires
-choose-requires g c = λ k e.
-    let x = c.args.self.now in
-    sym (x.fine.agrees k) ∙ left (bit x.core.pending k) (drops_at (draft_of x.table) x.core.jobs k) (sym (c.kept.ensures k) ∙ e)
 
 numbers : (d : Draft) (s : State) (mark : Mark) (b : Bool) (mode : Mode) (jobs : ℕ → Option Job) (o : Option Turn) → option_map (λ t. t.number) (option_map (taken_of d) o) ≡ (outcome_by d s mark b mode jobs o).answer.task
 numbers d s mark b mode jobs None = refl

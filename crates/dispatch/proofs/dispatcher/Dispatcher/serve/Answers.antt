@@ -13,19 +13,6 @@ use Rattle.dispatch.proofs.Seats.{state_is}
 use Rattle.dispatch.proofs.Turning.{taken_pending}
 use Rattle.dispatch.proofs.dispatcher.Dispatcher.serve.Goals as goal
 
-pub overflow_add-run : goal.overflow_add-run
-overflow_add-run g c =
-    let x = c.args.self.now in
-    let t = c.args.taken in
-    let there = seat_slot x.core.jobs t.number t.job (taken_pending (draft_of x.table) (g.O.TieOrder.ahead x.order.now) x.core.mode x.core t c.requires.first).0 in
-    omega (arith, x.fine.run (t.number - 1) t.job there.1, x.fine.clocked)
-
-pub write-requires : goal.write-requires
-write-requires g c =
-    let x = c.args.self.now in
-    let t = c.args.taken in
-    seat_below x.table x.core.jobs x.fine.owned t.number t.job (taken_pending (draft_of x.table) (g.O.TieOrder.ahead x.order.now) x.core.mode x.core t c.requires.first).0
-
 pub invariant_of-self : goal.invariant_of-self
 invariant_of-self g c =
     let x = c.args.self.now in
