@@ -25,7 +25,7 @@ use Rattle.dispatch.specs.Turns.{turn_of_taken, taken_of, first_taken, asked_of}
 use Rattle.runs.proofs.Choosing.{Seated, Turned, turn_is}
 
 -- the turn's job is pending
-pub turn_pending : (jobs : ℕ → Option Job) (o : Option Candidate) (t : Turn) → turn_of jobs o ≡ Some t → jobs t.number ≡ Some t.job
+turn_pending : (jobs : ℕ → Option Job) (o : Option Candidate) (t : Turn) → turn_of jobs o ≡ Some t → jobs t.number ≡ Some t.job
 turn_pending jobs None t e = let z : ◌≡◌ {A = ℕ} 0 1 = cc in absurd (omega arith)
 turn_pending jobs (Some c) t e = by (jobs c.number) refl e
   where
@@ -36,7 +36,7 @@ turn_pending jobs (Some c) t e = by (jobs c.number) refl e
         ap jobs (sym (ap (λ x. x.number) is)) ∙ q ∙ ap (λ x. Some x.job) is
 
 -- who is asked, where the turn in the current mode is known
-pub asked_is : (d : Draft) (ahead : Ahead) (jobs : ℕ → Option Job) (mode : Mode) (o : Option Turn) → turn ahead mode d jobs ≡ o → asked_by d mode (turn ahead Low d jobs) ≡ asked_by d mode o
+asked_is : (d : Draft) (ahead : Ahead) (jobs : ℕ → Option Job) (mode : Mode) (o : Option Turn) → turn ahead mode d jobs ≡ o → asked_by d mode (turn ahead Low d jobs) ≡ asked_by d mode o
 asked_is d ahead jobs High o e = refl
 asked_is d ahead jobs Low o e = ap (asked_by d Low) e
 
@@ -67,7 +67,7 @@ asked_first d ahead s f e =
     let is = turn_taken d (turn ahead s.mode d s.job) f e in
     asked_is d ahead s.job s.mode (Some (turn_of_taken f)) is.0 ∙ asked_taken d s.mode f is.1
 
-pub none_asked : (d : Draft) (mode : Mode) → asked_by d mode None ≡ None
+none_asked : (d : Draft) (mode : Mode) → asked_by d mode None ≡ None
 none_asked d High = refl
 none_asked d Low = refl
 
