@@ -1,3 +1,4 @@
+mod Mapped
 mod Known
 mod Chosen
 mod Masks
@@ -7,4 +8,5 @@ mod Turning
 mod Arriving
 mod Logged
 mod Empty
+mod Foreign
 mod Asked

@@ -1,98 +1,57 @@
-ghost use Rattle.std.specs.Prelude.{◌≡◌, ◌+◌, ◌^◌, ◌<◌, true, Some, None, Ok, Err, slice_index_or};
+ghost use Rattle.std.specs.Prelude.{◌≡◌, ◌^◌, ◌<◌, true, Ok, Err};
 ghost use Rattle.table.specs.Firsts.{refusal};
 ghost use Rattle.table.specs.Tables.{draft_of};
 ghost use Rattle.runs.specs.States.{known, within as is_within};
-ghost use Rattle.runs.specs.Arrivals.{next_arrival, unassured_by, arrival_fault, arrival, after_arrival};
-ghost use Rattle.dispatch.specs.Cores.{Fine, state_of};
+ghost use Rattle.runs.specs.Arrivals.{next_arrival, unassured_by, arrival_fault};
+ghost use Rattle.dispatch.specs.Cores.{state_of};
 
-use super::lookup::{job_at, within};
-use super::state::Core;
-use super::steps::write;
-use runs::answer::{Job, Mode};
+use super::dispatcher::Dispatcher;
+use super::lookup::{at, within};
+use budget::rule::Rule;
+use order::tie_order::TieOrder;
+use runs::answer::Mode;
 use runs::refusal::ArrivalRefusal;
-use table::table::Table;
 use tasks::task::Criticality;
 use tasks::units::Ticks;
-
-fn last_at(last: &[Option<Ticks>; 32], slot: u32) -> Option<Ticks>
-    requires { slot < 32 }
-    ensures { result ≡ slice_index_or last.now slot None }
-{
-    last[slot as usize]
-}
 
 // The first clock at which a task may arrive again.
 fn next_after(last: Option<Ticks>, period: Ticks) -> Ticks
     requires { next_arrival period.0 last < 2 ^ 64 }
     ensures { result.0 ≡ next_arrival period.0 last }
 {
-    match last {
-        Some(arrival) => Ticks(arrival.0 + period.0),
-        None => Ticks(0),
-    }
+    last.map_or(Ticks(0), |arrival| Ticks(arrival.0 + period.0))
 }
 
 fn check_assured(mode: Mode, number: u32, criticality: Criticality) -> Result<(), ArrivalRefusal>
     ensures { refusal result ≡ unassured_by mode number (is_within criticality 0) }
 {
-    match mode {
-        Mode::Low => Ok(()),
-        Mode::High => {
-            if within(criticality, Ticks(0)) {
-                Ok(())
-            } else {
-                Err(ArrivalRefusal::NoAssuredPart(number))
-            }
-        }
+    if mode == Mode::High && !within(criticality, Ticks(0)) {
+        return Err(ArrivalRefusal::NoAssuredPart(number));
     }
-}
-
-// The first refusal of an arrival, if there is one.
-fn check_arrival(table: &Table, core: &Core, number: u32) -> Result<(), ArrivalRefusal>
-    requires { Fine (draft_of table.now) core.now }
-    ensures first { refusal result ≡ arrival_fault (draft_of table.now) (state_of core.now) number }
-    ensures known { elim result [ Ok v ↦ known (draft_of table.now) number ≡ true | Err e ↦ Unit {0} ] }
-{
-    if core.foreign {
-        return Err(ArrivalRefusal::ForeignRule);
-    }
-    let Some(task) = table.task(number) else {
-        return Err(ArrivalRefusal::NoSuchTask(number));
-    };
-    let slot = number - 1;
-    let next = next_after(last_at(&core.last, slot), task.period);
-    if next.0 > core.clock.0 {
-        return Err(ArrivalRefusal::TooEarly(number, next));
-    }
-    if let Some(job) = job_at(&core.jobs, slot) {
-        return Err(ArrivalRefusal::StillPending(number, job));
-    }
-    check_assured(core.mode, number, task.criticality)
-}
-
-// One arrival at a dispatcher's parts.
-pub(crate) fn arrive_parts(
-    table: &Table,
-    core: &mut Core,
-    number: u32,
-) -> Result<(), ArrivalRefusal>
-    requires { Fine (draft_of table.now) core.old }
-    ensures answer { result ≡ arrival (draft_of table.now) (state_of core.old) number }
-    ensures state { state_of core.new ≡ after_arrival (draft_of table.now) (state_of core.old) number }
-    ensures fine { Fine (draft_of table.now) core.new }
-    ensures same { elim result [ Ok v ↦ Unit {0} | Err e ↦ core.new ≡ core.old ] }
-{
-    check_arrival(table, core, number)?;
-    let slot = number - 1;
-    let clock = core.clock;
-    write(
-        core,
-        slot,
-        Some(Job {
-            arrival: clock,
-            run: Ticks(0),
-        }),
-    );
-    core.last[slot as usize] = Some(clock);
     Ok(())
+}
+
+impl<'o, R: Rule, O: TieOrder> Dispatcher<'o, R, O> {
+    // The first refusal of an arrival, if there is one.
+    pub(crate) fn check_arrival(&self, number: u32) -> Result<(), ArrivalRefusal>
+        ensures first { refusal result ≡ arrival_fault (draft_of self.now.table) (state_of self.now.core) number }
+        ensures known { elim result [ Ok v ↦ known (draft_of self.now.table) number ≡ true | Err e ↦ Unit {0} ] }
+    {
+        if self.core.foreign {
+            return Err(ArrivalRefusal::ForeignRule);
+        }
+        let task = self
+            .table
+            .task(number)
+            .ok_or(ArrivalRefusal::NoSuchTask(number))?;
+        let slot = number - 1;
+        let next = next_after(at(&self.core.last, slot), task.period);
+        if next > self.core.clock {
+            return Err(ArrivalRefusal::TooEarly(number, next));
+        }
+        if let Some(job) = at(&self.core.jobs, slot) {
+            return Err(ArrivalRefusal::StillPending(number, job));
+        }
+        check_assured(self.core.mode, number, task.criticality)
+    }
 }

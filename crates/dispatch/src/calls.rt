@@ -7,14 +7,13 @@ ghost use Rattle.runs.specs.Produced.{Kind, lawful, Keeps};
 ghost use Rattle.runs.specs.Bounds.{Extends};
 ghost use Rattle.dispatch.specs.Cores.{state_of};
 
-use super::arrivals::arrive_parts;
 use super::dispatcher::Dispatcher;
-use super::parts::tick_parts;
 use budget::rule::Rule;
 use order::tie_order::TieOrder;
-use runs::answer::Answer;
+use runs::answer::{Answer, Job};
 use runs::call::Mark;
 use runs::refusal::{ArrivalRefusal, TickRefusal};
+use tasks::units::Ticks;
 
 impl<'o, R: Rule, O: TieOrder> Dispatcher<'o, R, O> {
     // A job of the task arrives.
@@ -25,7 +24,16 @@ impl<'o, R: Rule, O: TieOrder> Dispatcher<'o, R, O> {
         ensures same { elim result [ Ok v ↦ Unit {0} | Err e ↦ self.new.core ≡ self.old.core ] }
         ensures log { (kind : Kind) → Extends kind (draft_of self.old.table) (O.TieOrder.ahead self.old.order.now) (R.Rule.meaning self.old.rule) (state_of self.old.core) (Entry.Arrive task (Some result)) (R.Rule.meaning self.new.rule) (state_of self.new.core) }
     {
-        arrive_parts(&self.table, &mut self.core, task)
+        self.check_arrival(task)?;
+        let slot = task - 1;
+        let clock = self.core.clock;
+        let job = Job {
+            arrival: clock,
+            run: Ticks(0),
+        };
+        self.core.write(slot, Some(job));
+        self.core.last[slot as usize] = Some(clock);
+        Ok(())
     }
 
     // One tick passes; the mark says whether the job that it runs is then done.
@@ -39,12 +47,7 @@ impl<'o, R: Rule, O: TieOrder> Dispatcher<'o, R, O> {
         ensures log { Extends lawful (draft_of self.old.table) (O.TieOrder.ahead self.old.order.now) (R.Rule.meaning self.old.rule) (state_of self.old.core) (Entry.Tick mark (Some result)) (R.Rule.meaning self.new.rule) (state_of self.new.core) }
         ensures kinds { (kind : Kind) → Keeps kind (R.Rule.meaning self.new.rule) → Extends kind (draft_of self.old.table) (O.TieOrder.ahead self.old.order.now) (R.Rule.meaning self.old.rule) (state_of self.old.core) (Entry.Tick mark (Some result)) (R.Rule.meaning self.new.rule) (state_of self.new.core) }
     {
-        tick_parts(
-            &self.table,
-            self.order,
-            &mut self.rule,
-            &mut self.core,
-            mark,
-        )
+        self.check_tick()?;
+        Ok(self.advance(mark))
     }
 }

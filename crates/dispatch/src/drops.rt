@@ -1,12 +1,14 @@
-ghost use Rattle.std.specs.Prelude.{◌≡◌, ℕ, ◌<◌, not, ◌&&◌, length, if◌then◌else◌, None, slice_index_or};
+ghost use Rattle.std.specs.Prelude.{◌≡◌, ℕ, ◌+◌, ◌<◌, true, not, ◌&&◌, length, if◌then◌else◌, None, slice_index_or};
 ghost use Rattle.table.specs.Tables.{draft_of};
 ghost use Rattle.order.specs.Bits.{bit};
+ghost use Rattle.runs.specs.States.{known};
 ghost use Rattle.runs.specs.Masks.{mask};
 ghost use Rattle.runs.specs.Slots.{seat};
 ghost use Rattle.runs.specs.Ticking.{drops};
 ghost use Rattle.dispatch.specs.Cores.{Agrees, Owned, drops_at};
 
-use super::lookup::{job_at, task_of, within};
+use super::lookup::{at, within};
+use super::row::Row;
 use order::mask::with_slot;
 use order::slots::Slots;
 use runs::answer::Job;
@@ -18,10 +20,17 @@ fn is_past(table: &Table, jobs: &[Option<Job>; 32], slot: u32) -> bool
     requires owned { Owned (draft_of table.now).count jobs.now }
     ensures { result ≡ drops_at (draft_of table.now) jobs.now slot }
 {
-    match job_at(jobs, slot) {
-        Some(job) => !within(task_of(table, slot + 1).criticality, job.run),
-        None => false,
-    }
+    at(jobs, slot).is_some_and(
+        |job|
+            requires { known (draft_of table.now) (slot + 1) ≡ true }
+        {
+            let row = Row {
+                table,
+                number: slot + 1,
+            };
+            !within(row.task().criticality, job.run)
+        },
+    )
 }
 
 // The pending jobs that a switch drops: the low ones that have had their assured part.

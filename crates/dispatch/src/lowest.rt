@@ -8,11 +8,7 @@ use runs::answer::Answer;
 pub fn lowest_task(mask: u32) -> Option<u32>
     ensures { result ≡ lowest_task (bit mask) }
 {
-    if mask == 0 {
-        None
-    } else {
-        Some(mask.trailing_zeros() + 1)
-    }
+    (mask != 0).then_some(mask.trailing_zeros() + 1)
 }
 
 // The lowest task that a tick dropped.

@@ -1,54 +1,30 @@
 ghost use Rattle.std.specs.Prelude.{◌≡◌, []};
 ghost use Rattle.table.specs.Tables.{draft_of};
 ghost use Rattle.table.specs.Firsts.{first_below};
-ghost use Rattle.table.specs.Verdict.{Draft};
 ghost use Rattle.budget.specs.Meaning.{Rested};
 ghost use Rattle.runs.specs.States.{new_state, foreign_rule, foreign_weight, is_none, Judged};
 ghost use Rattle.runs.specs.Produced.{Kind, lawful, Keeps, Produced};
-ghost use Rattle.dispatch.specs.Cores.{Fine, state_of};
+ghost use Rattle.dispatch.specs.Cores.{state_of};
 
 use super::dispatcher::Dispatcher;
 use super::state::Core;
 use budget::rule::Rule;
 use budget::weights::rule_weight;
 use order::tie_order::TieOrder;
-use runs::answer::Mode;
 use table::table::Table;
-use tasks::units::Ticks;
 
 // Whether the rule has the table's weight for each number from 1 to 32.
 fn weights_agree<R: Rule>(table: &Table, rule: &R) -> bool
     ensures { result ≡ is_none (first_below 32 (foreign_weight (draft_of table.now) (R.Rule.meaning rule.now))) }
 {
-    for k in 0..32u32 {
-        if rule.weight(k + 1).0 != rule_weight(table, k + 1).0 {
-            return false;
-        }
-    }
-    true
+    (0..32).all(|slot| rule.weight(slot + 1) == rule_weight(table, slot + 1))
 }
 
 // Whether the rule's weights or total are not the table's.
 fn is_foreign<R: Rule>(table: &Table, rule: &R) -> bool
     ensures { result ≡ foreign_rule (draft_of table.now) (R.Rule.meaning rule.now) }
 {
-    !weights_agree(table, rule) || rule.total().0 != table.total().0
-}
-
-// Nothing is pending, and nothing has arrived.
-fn empty(foreign: bool) -> Core
-    ensures foreign { result.foreign ≡ foreign }
-    ensures state { state_of result ≡ new_state foreign }
-    ensures fine { (d : Draft) → Fine d result }
-{
-    Core {
-        foreign,
-        clock: Ticks(0),
-        mode: Mode::Low,
-        pending: 0,
-        jobs: [None; 32],
-        last: [None; 32],
-    }
+    !weights_agree(table, rule) || rule.total() != table.total()
 }
 
 impl<'o, R: Rule, O: TieOrder> Dispatcher<'o, R, O> {
@@ -68,7 +44,7 @@ impl<'o, R: Rule, O: TieOrder> Dispatcher<'o, R, O> {
             table: *table,
             order,
             rule,
-            core: empty(foreign),
+            core: Core::new(foreign),
         }
     }
 }

@@ -12,10 +12,10 @@ ghost use Rattle.runs.specs.Produced.{Kind, Produced};
 ghost use Rattle.dispatch.specs.Cores.{state_of};
 ghost use Rattle.dispatch.specs.Questions.{task_run, age_at, plain, is_pending, lowest_task};
 
-use super::coming::coming_parts;
 use super::dispatcher::Dispatcher;
-use super::lookup::job_at;
+use super::lookup::at;
 use super::lowest::lowest_task;
+use super::steps::would_deny;
 use budget::rule::{Metered, Rule};
 use order::mask::slots_in;
 use order::tie_order::TieOrder;
@@ -50,10 +50,8 @@ impl<'o, R: Rule, O: TieOrder> Dispatcher<'o, R, O> {
         ensures is { result ≡ (state_of self.now.core).job task }
         ensures log { (kind : Kind) (log : List Entry) → Produced kind (draft_of self.now.table) (O.TieOrder.ahead self.now.order.now) log (R.Rule.meaning self.now.rule) (state_of self.now.core) → result ≡ shown task log }
     {
-        if task == 0 || task > 32 {
-            return None;
-        }
-        job_at(&self.core.jobs, task - 1)
+        let slot = task.checked_sub(1)?;
+        at(&self.core.jobs, slot)
     }
 
     // The age of a task's pending job: the ticks since its arrival. It is always below the task's period.
@@ -61,17 +59,21 @@ impl<'o, R: Rule, O: TieOrder> Dispatcher<'o, R, O> {
         ensures is { result ≡ age_at (state_of self.now.core).clock ((state_of self.now.core).job task) }
         ensures log { (kind : Kind) (log : List Entry) → Produced kind (draft_of self.now.table) (O.TieOrder.ahead self.now.order.now) log (R.Rule.meaning self.now.rule) (state_of self.now.core) → (plain result ≡ log_age task log) × ((a : Ticks) → result ≡ Some a → a.0 < period (draft_of self.now.table) task) }
     {
-        match self.job(task) {
-            Some(job) => Some(Ticks(self.core.clock.0 - job.arrival.0)),
-            None => None,
-        }
+        let clock = self.core.clock;
+        self.job(task).map(|job| Ticks(clock.0 - job.arrival.0))
     }
 
     // The task that the coming tick would run: none if it would be idle or refused.
     pub fn coming(&self) -> Option<u32>
         ensures { (mark : Mark) → result ≡ task_run (the_tick (draft_of self.now.table) (O.TieOrder.ahead self.now.order.now) (R.Rule.meaning self.now.rule).yes (state_of self.now.core) mark) }
     {
-        coming_parts(&self.table, self.order, &self.rule, &self.core)
+        self.check_tick().ok()?;
+        let first = self.choose_pending(self.core.mode)?;
+        if !would_deny(&self.rule, self.core.mode, first) {
+            return Some(first.number);
+        }
+        self.choose(Mode::High, self.kept())
+            .map(|again| again.number)
     }
 
     // The tasks with a pending job: bit i - 1 for task i.

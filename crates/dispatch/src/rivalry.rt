@@ -1,8 +1,9 @@
 ghost use Rattle.table.specs.Tables.{draft_of};
 ghost use Rattle.dispatch.specs.Turns.{rival, slot_of};
 
-use super::lookup::{contender, job_at};
+use super::lookup::at;
 use super::rivals::Rivals;
+use super::row::Row;
 use order::candidate::Candidate;
 use order::candidates::Candidates;
 use tasks::task::Level;
@@ -15,9 +16,11 @@ impl Candidates for Rivals<'_, '_> {
         if slot >= 32 {
             return Candidate::new(Ticks(0), Level::High, 0);
         }
-        match job_at(self.jobs, slot) {
-            Some(job) => contender(self.table, self.mode, slot + 1, job),
-            None => Candidate::new(Ticks(0), Level::High, slot + 1),
+        let (table, jobs) = (self.table, self.jobs);
+        let number = slot + 1;
+        match at(jobs, slot) {
+            Some(job) => Row { table, number }.contender(self.mode, job),
+            None => Candidate::new(Ticks(0), Level::High, number),
         }
     }
 }

@@ -1,98 +1,55 @@
-ghost use Rattle.std.specs.Prelude.{◌≡◌, ◌+◌, ◌^◌, ◌<◌, true, if◌then◌else◌, Some, None};
+ghost use Rattle.std.specs.Prelude.{◌≡◌, ℕ, ◌+◌, ◌^◌, ◌<◌, true, not, ◌&&◌, Some};
+ghost use Rattle.std.specs.Bool.{then_some};
 ghost use Rattle.table.specs.Tables.{draft_of};
+ghost use Rattle.order.specs.Bits.{bit};
 ghost use Rattle.runs.specs.Masks.{mask};
 ghost use Rattle.runs.specs.Slots.{seat};
-ghost use Rattle.runs.specs.States.{known, the_task};
-ghost use Rattle.runs.specs.Ticking.{drops, ending as the_ending, falls_short as is_short, none_pending, LetRest, Asked, asked_by, denied as is_denied};
-ghost use Rattle.dispatch.specs.Cores.{Fine, state_of};
-ghost use Rattle.dispatch.specs.Steps.{running, served_state, settled, Writes, rest_of};
-ghost use Rattle.dispatch.specs.Turns.{turn_of_taken};
+ghost use Rattle.runs.specs.Ticking.{drops, ending as the_ending, falls_short as is_short, none_pending, LetRest, Asked, denied as is_denied};
+ghost use Rattle.dispatch.specs.Cores.{state_of, drops_at};
+ghost use Rattle.dispatch.specs.Steps.{running, served_state, settled, rest_of};
+ghost use Rattle.dispatch.specs.Turns.{turn_of_taken, asked_of, first_taken};
 
+use super::dispatcher::Dispatcher;
 use super::drops::{clear, past_assured, without};
-use super::lookup::{is_high, task_of};
-use super::state::Core;
+use super::lookup::is_high;
 use super::turn::Taken;
 use budget::rule::Rule;
-use order::mask::{with_slot, without_slot};
+use order::tie_order::TieOrder;
 use runs::answer::{Ending, Job, Mode};
 use runs::call::Mark;
-use table::table::Table;
 use tasks::task::{Criticality, Task};
 use tasks::units::Ticks;
 
-// Writes the job of a slot.
-pub(crate) fn write(core: &mut Core, slot: u32, job: Option<Job>)
-    requires { slot < 32 }
-    ensures { Writes core.old core.new slot job }
-{
-    core.pending = match job {
-        Some(_) => with_slot(core.pending, slot),
-        None => without_slot(core.pending, slot),
-    };
-    core.jobs[slot as usize] = job;
-}
-
 // Whether the rule is asked about the first job: in low mode, if it is high.
-fn asks(table: &Table, mode: Mode, first: Taken) -> bool
-    requires { known (draft_of table.now) first.number ≡ true }
-    ensures { asked_by (draft_of table.now) mode (Some (turn_of_taken first)) ≡ (if result then Some (turn_of_taken first) else None) }
+fn asks(mode: Mode, first: Taken) -> bool
+    ensures { asked_of mode first ≡ then_some result (turn_of_taken first) }
 {
-    match mode {
-        Mode::High => false,
-        Mode::Low => is_high(task_of(table, first.number).criticality),
-    }
+    mode == Mode::Low && is_high(first.task.criticality)
 }
 
 // Asks the rule for a grant, where it is asked at all: whether that was denied.
-pub(crate) fn denied<R: Rule>(table: &Table, rule: &mut R, mode: Mode, first: Taken) -> bool
-    requires { known (draft_of table.now) first.number ≡ true }
-    ensures grant { Asked (asked_by (draft_of table.now) mode (Some (turn_of_taken first))) (R.Rule.meaning rule.old) (R.Rule.meaning rule.new) }
-    ensures is { result ≡ is_denied (R.Rule.meaning rule.old).yes (asked_by (draft_of table.now) mode (Some (turn_of_taken first))) }
+pub(crate) fn denied<R: Rule>(rule: &mut R, mode: Mode, first: Taken) -> bool
+    ensures grant { Asked (asked_of mode first) (R.Rule.meaning rule.old) (R.Rule.meaning rule.new) }
+    ensures is { result ≡ is_denied (R.Rule.meaning rule.old).yes (asked_of mode first) }
     ensures policy { R.Rule.policy rule.new ≡ R.Rule.policy rule.old }
 {
-    if asks(table, mode, first) {
-        !rule.grant(first.number, first.job.run)
-    } else {
-        false
-    }
+    asks(mode, first) && !rule.grant(first.number, first.job.run)
 }
 
 // Whether a grant would be denied.
-pub(crate) fn would_deny<R: Rule>(table: &Table, rule: &R, mode: Mode, first: Taken) -> bool
-    requires { known (draft_of table.now) first.number ≡ true }
-    ensures { result ≡ is_denied (R.Rule.meaning rule.now).yes (asked_by (draft_of table.now) mode (Some (turn_of_taken first))) }
+pub(crate) fn would_deny<R: Rule>(rule: &R, mode: Mode, first: Taken) -> bool
+    ensures { result ≡ is_denied (R.Rule.meaning rule.now).yes (asked_of mode first) }
 {
-    if asks(table, mode, first) {
-        !rule.ask(first.number, first.job.run)
-    } else {
-        false
-    }
-}
-
-// The mode becomes high, and the low jobs that have had their assured part are dropped.
-pub(crate) fn switch(table: &Table, core: &mut Core) -> u32
-    requires { Fine (draft_of table.now) core.old }
-    ensures dropped { result ≡ mask 32 (drops (draft_of table.now) (seat core.old.jobs)) }
-    ensures state { state_of core.new ≡ running (draft_of table.now) true (state_of core.old) }
-    ensures fine { Fine (draft_of table.now) core.new }
-{
-    let dropped = past_assured(table, &core.jobs, core.pending);
-    clear(&mut core.jobs, dropped);
-    core.pending = without(core.pending, dropped);
-    core.mode = Mode::High;
-    dropped
+    asks(mode, first) && !rule.ask(first.number, first.job.run)
 }
 
 // Whether a job in this mode has had all that it gets.
 fn falls_short(criticality: Criticality, mode: Mode, run: Ticks) -> bool
     ensures { result ≡ is_short mode criticality run.0 }
 {
-    match mode {
-        Mode::Low => false,
-        Mode::High => match criticality {
-            Criticality::High => false,
-            Criticality::Low { assured } => run.0 == assured.0,
-        },
+    match (mode, criticality) {
+        (Mode::High, Criticality::Low { assured }) => run == assured,
+        _ => false,
     }
 }
 
@@ -102,15 +59,9 @@ fn ending(task: Task, mode: Mode, mark: Mark, run: Ticks) -> Option<Ending>
 {
     match mark {
         Mark::Done => Some(Ending::Done),
-        Mark::NotDone => {
-            if run.0 == task.worst.0 {
-                Some(Ending::Limit)
-            } else if falls_short(task.criticality, mode, run) {
-                Some(Ending::Short)
-            } else {
-                None
-            }
-        }
+        Mark::NotDone if run == task.worst => Some(Ending::Limit),
+        Mark::NotDone if falls_short(task.criticality, mode, run) => Some(Ending::Short),
+        Mark::NotDone => None,
     }
 }
 
@@ -118,42 +69,57 @@ fn ending(task: Task, mode: Mode, mark: Mark, run: Ticks) -> Option<Ending>
 fn rest_of(ending: Option<Ending>, arrival: Ticks, run: Ticks) -> Option<Job>
     ensures { result ≡ rest_of ending arrival run }
 {
-    match ending {
-        Some(_) => None,
-        None => Some(Job { arrival, run }),
+    ending.is_none().then_some(Job { arrival, run })
+}
+
+impl<'o, R: Rule, O: TieOrder> Dispatcher<'o, R, O> {
+    // The mode becomes high, and the low jobs that have had their assured part are dropped.
+    pub(crate) fn switch(&mut self) -> u32
+        ensures fixed { (self.new.table ≡ self.old.table) × (self.new.order.now ≡ self.old.order.now) × (self.new.rule ≡ self.old.rule) }
+        ensures dropped { result ≡ mask 32 (drops (draft_of self.old.table) (seat self.old.core.jobs)) }
+        ensures state { state_of self.new.core ≡ running (draft_of self.old.table) true (state_of self.old.core) }
+    {
+        let dropped = past_assured(&self.table, &self.core.jobs, self.core.pending);
+        clear(&mut self.core.jobs, dropped);
+        self.core.pending = without(self.core.pending, dropped);
+        self.core.mode = Mode::High;
+        dropped
     }
-}
 
-// The job has its tick, and ends or goes on.
-pub(crate) fn serve(table: &Table, core: &mut Core, taken: Taken, mark: Mark) -> Option<Ending>
-    requires fine { Fine (draft_of table.now) core.old }
-    requires pending { seat core.old.jobs taken.number ≡ Some taken.job }
-    requires early { core.old.clock.0 < 2 ^ 40 }
-    ensures ending { result ≡ the_ending (the_task (draft_of table.now) taken.number) core.old.mode mark (taken.job.run.0 + 1) }
-    ensures state { state_of core.new ≡ served_state (draft_of table.now) mark (state_of core.old) (turn_of_taken taken) }
-    ensures fine { Fine (draft_of table.now) core.new }
-{
-    let run = Ticks(taken.job.run.0 + 1);
-    let ending = ending(task_of(table, taken.number), core.mode, mark, run);
-    write(
-        core,
-        taken.number - 1,
-        rest_of(ending, taken.job.arrival, run),
-    );
-    core.clock.0 += 1;
-    ending
-}
+    // The slots of the jobs that a switch would keep.
+    pub(crate) fn kept(&self) -> u32
+        ensures { (k : ℕ) → bit result k ≡ (bit self.now.core.pending k && not (drops_at (draft_of self.now.table) self.now.core.jobs k)) }
+    {
+        let past = past_assured(&self.table, &self.core.jobs, self.core.pending);
+        without(self.core.pending, past)
+    }
 
-// With no job pending the mode is low and the rule rests.
-pub(crate) fn settle<R: Rule>(table: &Table, rule: &mut R, core: &mut Core)
-    requires { Fine (draft_of table.now) core.old }
-    ensures state { state_of core.new ≡ settled (state_of core.old) }
-    ensures rest { LetRest (none_pending (seat core.old.jobs)) (R.Rule.meaning rule.old) (R.Rule.meaning rule.new) }
-    ensures policy { R.Rule.policy rule.new ≡ R.Rule.policy rule.old }
-    ensures fine { Fine (draft_of table.now) core.new }
-{
-    if core.pending == 0 {
-        core.mode = Mode::Low;
-        rule.rest();
+    // The job has its tick, and ends or goes on.
+    pub(crate) fn serve(&mut self, taken: Taken, mark: Mark) -> Option<Ending>
+        requires first { Some taken ≡ first_taken (draft_of self.old.table) (O.TieOrder.ahead self.old.order.now) self.old.core.mode self.old.core }
+        requires early { self.old.core.clock.0 < 2 ^ 40 }
+        ensures fixed { (self.new.table ≡ self.old.table) × (self.new.order.now ≡ self.old.order.now) × (self.new.rule ≡ self.old.rule) }
+        ensures ending { result ≡ the_ending taken.task self.old.core.mode mark (taken.job.run.0 + 1) }
+        ensures state { state_of self.new.core ≡ served_state (draft_of self.old.table) mark (state_of self.old.core) (turn_of_taken taken) }
+    {
+        let run = Ticks(taken.job.run.0 + 1);
+        let ending = ending(taken.task, self.core.mode, mark, run);
+        let rest = rest_of(ending, taken.job.arrival, run);
+        self.core.write(taken.number - 1, rest);
+        self.core.clock.0 += 1;
+        ending
+    }
+
+    // With no job pending the mode is low and the rule rests.
+    pub(crate) fn settle(&mut self)
+        ensures fixed { (self.new.table ≡ self.old.table) × (self.new.order.now ≡ self.old.order.now) }
+        ensures state { state_of self.new.core ≡ settled (state_of self.old.core) }
+        ensures rest { LetRest (none_pending (seat self.old.core.jobs)) (R.Rule.meaning self.old.rule) (R.Rule.meaning self.new.rule) }
+        ensures policy { R.Rule.policy self.new.rule ≡ R.Rule.policy self.old.rule }
+    {
+        if self.core.pending == 0 {
+            self.core.mode = Mode::Low;
+            self.rule.rest();
+        }
     }
 }

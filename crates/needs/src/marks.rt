@@ -16,15 +16,10 @@ use tasks::units::Ticks;
 fn mark_at(need: Ticks, job: Option<Job>) -> Mark
     ensures { result ≡ mark_at need.0 job }
 {
-    match job {
-        Some(job) => {
-            if job.run.0 < need.0 && need.0 - job.run.0 == 1 {
-                Mark::Done
-            } else {
-                Mark::NotDone
-            }
-        }
-        None => Mark::NotDone,
+    if job.is_some_and(|job| need.0.checked_sub(job.run.0) == Some(1)) {
+        Mark::Done
+    } else {
+        Mark::NotDone
     }
 }
 

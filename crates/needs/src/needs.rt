@@ -1,4 +1,6 @@
 ghost use Rattle.std.specs.Prelude.{◌≡◌, ℕ, length};
+ghost use Rattle.std.specs.Option.{unwrap_or};
+ghost use Rattle.table.specs.Tasks.{ticks};
 ghost use Rattle.budget.specs.Slots.{ticks_in};
 ghost use Rattle.needs.specs.Noted.{noted};
 
@@ -25,17 +27,21 @@ impl Needs {
     pub fn need(&self, task: u32) -> Ticks
         ensures { result.0 ≡ ticks_in self.now.slots task }
     {
-        if task == 0 || task > 32 {
-            return Ticks(0);
-        }
-        self.slots[task as usize - 1]
+        self.noted(task).unwrap_or(Ticks(0))
+    }
+
+    // What stands at the slot of a number, if there is one.
+    fn noted(&self, task: u32) -> Option<Ticks>
+        ensures { (unwrap_or result (ticks 0)).0 ≡ ticks_in self.now.slots task }
+    {
+        self.slots.get(task.checked_sub(1)? as usize).copied()
     }
 
     // Notes the need of a task's job. A number outside 1 to 32 is no task, and nothing is noted.
     pub fn note(&mut self, task: u32, need: Ticks)
         ensures { (i : ℕ) → ticks_in self.new.slots i ≡ noted (ticks_in self.old.slots) task need.0 i }
     {
-        if 1 <= task && task <= 32 {
+        if (1..=32).contains(&task) {
             self.slots[task as usize - 1] = need;
         }
     }

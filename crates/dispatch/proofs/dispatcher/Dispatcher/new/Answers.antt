@@ -12,20 +12,18 @@ keeps : (g : given.Over) (x : g.row.R.Denot) → Keeps lawful (g.R.Rule.meaning 
 keeps g x = record { law = record { bounded = g.met.R.Rule.bounded x; silent = g.met.R.Rule.silent x; fits = g.met.R.Rule.fits x }; exactly = tt }
 
 pub invariant_of-result : goal.invariant_of-result
-invariant_of-result g c =
-    let f = c.empty.ensures.fine (draft_of c.args.table.now) in
-    record { agrees = f.agrees; owned = f.owned; arrived = f.arrived; run = f.run; lasts = f.lasts; clocked = f.clocked; slots = f.slots; seats = f.seats }
+invariant_of-result g c = record { fine = c.new.ensures.fine (draft_of c.args.table.now) }
 
 pub returns : goal.returns
 returns g c =
     let d = draft_of c.args.table.now in
     let m : Meaning = g.R.Rule.meaning c.args.rule in
     let n : Meaning = g.R.Rule.meaning c.rest.new.self in
-    let e = c.empty.ensures in
-    let b = c.empty.result.foreign in
+    let e = c.new.ensures in
+    let b = c.new.result.foreign in
     let foreign = e.foreign ∙ c.is_foreign-foreign.ensures in
     let fresh = e.state ∙ ap new_state (sym e.foreign) in
-    let produced = λ (kind : Kind) (k : Keeps kind n). making_produced kind d (g.O.TieOrder.ahead c.args.order.now) m n (state_of c.empty.result) b k c.rest.ensures.rested foreign fresh in
+    let produced = λ (kind : Kind) (k : Keeps kind n). making_produced kind d (g.O.TieOrder.ahead c.args.order.now) m n (state_of c.new.result) b k c.rest.ensures.rested foreign fresh in
     record {
       fixed = (refl, refl);
       rested = c.rest.ensures.rested;

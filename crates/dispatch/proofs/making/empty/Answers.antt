@@ -1,6 +1,0 @@
-use Rattle.std.proofs.Common.{refl}
-use Rattle.dispatch.proofs.Empty.{empty_state, empty_fine}
-use Rattle.dispatch.proofs.making.empty.Goals as goal
-
-pub returns : goal.returns
-returns c = record { foreign = refl; state = empty_state c.args.foreign; fine = empty_fine c.args.foreign }
