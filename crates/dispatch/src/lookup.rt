@@ -1,8 +1,7 @@
 ghost use Rattle.std.specs.Prelude.{◌≡◌, None, slice_index_or};
-ghost use Rattle.table.specs.Readers.{level_of};
 ghost use Rattle.runs.specs.States.{within as is_within, is_high};
 
-use tasks::task::{Criticality, Level};
+use tasks::task::Criticality;
 use tasks::units::Ticks;
 
 // Whether a job is high, or has had less than its assured part.
@@ -19,15 +18,6 @@ pub(crate) fn is_high(criticality: Criticality) -> bool
     ensures { result ≡ is_high criticality }
 {
     criticality == Criticality::High
-}
-
-pub(crate) fn level_of(criticality: Criticality) -> Level
-    ensures { result ≡ level_of criticality }
-{
-    match criticality {
-        Criticality::High => Level::High,
-        Criticality::Low { assured } => Level::Low,
-    }
 }
 
 // What stands at a slot.

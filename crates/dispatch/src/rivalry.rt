@@ -1,5 +1,6 @@
 ghost use Rattle.table.specs.Tables.{draft_of};
 ghost use Rattle.dispatch.specs.Turns.{rival, slot_of};
+ghost use Rattle.std.proofs.Common.{rules};
 
 use super::lookup::at;
 use super::rivals::Rivals;
@@ -11,6 +12,8 @@ use tasks::units::Ticks;
 
 impl Candidates for Rivals<'_, '_> {
     ghost at = { λ v k. rival v.mode (draft_of v.table.now) k (slot_of v.jobs.now k) };
+
+    ghost numbered = { Prim.search rules };
 
     fn candidate(&self, slot: u32) -> Candidate {
         if slot >= 32 {

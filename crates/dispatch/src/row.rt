@@ -4,11 +4,11 @@ ghost use Rattle.table.specs.Tasks.{virtual_deadline};
 ghost use Rattle.runs.specs.States.{known, the_task};
 ghost use Rattle.runs.specs.Choices.{deadline as the_deadline, contender as the_contender};
 
-use super::lookup::{level_of, within};
+use super::lookup::within;
 use order::candidate::Candidate;
 use runs::answer::{Job, Mode};
 use table::table::Table;
-use tasks::task::Task;
+use tasks::task::{Level, Task};
 use tasks::units::Ticks;
 
 // A task of a table, under its number.
@@ -55,7 +55,7 @@ impl Row<'_> {
     {
         Candidate::new(
             self.deadline(mode, job),
-            level_of(self.task().criticality),
+            Level::from(self.task().criticality),
             self.number,
         )
     }

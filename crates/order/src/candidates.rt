@@ -8,6 +8,7 @@ pub trait Candidates {
     ghost at: { Self → ℕ → Candidate };
 
     fn candidate(&self, slot: u32) -> Candidate
-        ensures is { result ≡ at self.now slot }
-        ensures numbered { slot < 32 → result.number ≡ slot + 1 };
+        ensures { result ≡ at self.now slot };
+
+    ghost numbered: { (x : Self) (slot : ℕ) → slot < 32 → (at x slot).number ≡ slot + 1 };
 }

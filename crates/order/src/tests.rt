@@ -2,6 +2,7 @@ ghost use Rattle.std.specs.Prelude.{◌+◌, if◌then◌else◌, nat_lt, slice_
 ghost use Rattle.table.specs.Tasks.{ticks};
 ghost use Rattle.tasks.specs.declared.task.Level.TheVariants.{High};
 ghost use Rattle.order.specs.Orders.{candidate};
+ghost use Rattle.std.proofs.Common.{rules};
 
 use super::by_number::ByNumber;
 use super::candidate::Candidate;
@@ -27,6 +28,8 @@ struct View<'a> {
 
 impl Candidates for View<'_> {
     ghost at = { λ v k. let job = slice_index_or v.jobs.now k (record { deadline = ticks 0; level = High }) in (if nat_lt k 32 then candidate job.deadline.0 job.level (k + 1) else candidate 0 High 0) };
+
+    ghost numbered = { Prim.search rules };
 
     fn candidate(&self, slot: u32) -> Candidate {
         if slot < 32 {

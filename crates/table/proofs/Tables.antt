@@ -3,7 +3,6 @@ use Rattle.std.proofs.Common.{◌≡◌, ℕ, zero, suc, ◌-◌, ◌<◌, ◌�
 use native.Mathlib.Decide.{dec_le}
 use Rattle.std.proofs.lemmas.Bool.{leb-true, le-leb, lt-leb, and_parts}
 use Rattle.std.proofs.lemmas.List.{get_or-take, length-take-le}
-pub use Rattle.std.proofs.lemmas.Option.{cond_some as present}
 use Rattle.std.proofs.lemmas.Option.{cond_some, slice_get-get_or, slice_get_past}
 use Rattle.table.specs.declared.table.Table.{Table}
 use Rattle.tasks.specs.declared.task.Task.{Task}

@@ -1,7 +1,8 @@
 use Rattle.std.proofs.Common.{◌≡◌, ◌-◌, ◌≤◌, true, None, sym, ap, ◌∙◌, arith, rules, tests}
 use Rattle.table.specs.Tables.{draft_of}
 use Rattle.table.specs.Verdict.{in_range}
-use Rattle.table.proofs.Tables.{table_accepted, task_sound, present}
+use Rattle.std.proofs.lemmas.Option.{cond_some}
+use Rattle.table.proofs.Tables.{table_accepted, task_sound}
 use Rattle.runs.specs.States.{known, the_task, period, within}
 use Rattle.runs.specs.Arrivals.{next_arrival, unassured_by}
 use Rattle.runs.proofs.Slots.{seat_at}
@@ -21,7 +22,7 @@ returns g c =
     let d = draft_of c.args.self.now.table in
     let s = state_of c.args.self.now.core in
     let i = c.args.number in
-    let p = present (in_range 1 d.count i) (the_task d i) c.in_ok-task.task (sym c.task.ensures ∙ c.in_ok-task.ensures.ok_part) in
+    let p = cond_some (in_range 1 d.count i) (the_task d i) c.in_ok-task.task (sym c.task.ensures ∙ c.in_ok-task.ensures.ok_part) in
     let low : 1 ≤ i = known_low d i p.0 in
     let last : s.last i ≡ c.at.result = seat_at c.args.self.now.core.last i low ∙ sym c.at.ensures in
     let free : s.job i ≡ None = seat_at c.args.self.now.core.jobs i low ∙ sym c.in_default.ensures in
