@@ -7,7 +7,7 @@ ghost use Rattle.budget.specs.Rules.{under_ceiling, policy_under};
 ghost use Rattle.budget.specs.Slots.{ticks_in};
 ghost use Rattle.std.proofs.Common.{rules};
 
-use super::lists::{check_count, check_sizes, slots_of, ticks_of};
+use super::lists::{Numbers, slots_of, ticks_of};
 use super::refusal::CeilingRefusal;
 use super::rule::{Metered, Rule};
 use table::table::Table;
@@ -30,10 +30,10 @@ pub struct CeilingRefused<R> {
 fn check_ceilings(table: &Table, ceilings: &[Ticks]) -> Result<(), CeilingRefusal>
     ensures { refusal result ≡ ceiling_fault (draft_of table.now) ceilings.now }
 {
-    check_count(table, ceilings).map_err(|(ceilings, tasks)| CeilingRefusal::Count(
+    let numbers = Numbers::new(table, ceilings).map_err(|(ceilings, tasks)| CeilingRefusal::Count(
         ceilings, tasks,
     ))?;
-    check_sizes(ceilings).map_err(CeilingRefusal::TooLarge)
+    numbers.check_sizes().map_err(CeilingRefusal::TooLarge)
 }
 
 impl<R> Ceiling<R> {

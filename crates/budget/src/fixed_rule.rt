@@ -11,7 +11,7 @@ ghost use Rattle.std.proofs.Common.{rules};
 ghost use Rattle.budget.specs.Budgets.{fixed_fits};
 
 use super::fixed::Fixed;
-use super::lists::{check_count, check_levels, check_sizes, slots_of, ticks_of};
+use super::lists::{Numbers, slots_of, ticks_of};
 use super::refusal::FixedRefusal;
 use super::rule::{Metered, Rule};
 use super::tally::Tally;
@@ -22,9 +22,11 @@ use tasks::units::{Shares, Ticks};
 fn check_budgets(table: &Table, budgets: &[Ticks]) -> Result<(), FixedRefusal>
     ensures { refusal result ≡ first_of (budgets_fault (draft_of table.now) budgets.now ∷ mapped LowTask (low_budget (draft_of table.now) budgets.now) ∷ mapped TooLarge (too_large budgets.now) ∷ []) }
 {
-    check_count(table, budgets).map_err(|(budgets, tasks)| FixedRefusal::Count(budgets, tasks))?;
-    check_levels(table, budgets).map_err(FixedRefusal::LowTask)?;
-    check_sizes(budgets).map_err(FixedRefusal::TooLarge)
+    let numbers = Numbers::new(table, budgets).map_err(|(budgets, tasks)| FixedRefusal::Count(
+        budgets, tasks,
+    ))?;
+    numbers.check_levels().map_err(FixedRefusal::LowTask)?;
+    numbers.check_sizes().map_err(FixedRefusal::TooLarge)
 }
 
 impl Fixed {

@@ -1,4 +1,4 @@
-ghost use Rattle.std.specs.Prelude.{◌≡◌, ℕ, ◌+◌, ◌<◌, ◌≤◌, length};
+ghost use Rattle.std.specs.Prelude.{◌≡◌, ℕ, ◌+◌, ◌<◌, ◌≤◌, length, IfOk};
 ghost use Rattle.table.specs.Firsts.{refusal};
 ghost use Rattle.table.specs.Tables.{draft_of};
 ghost use Rattle.budget.specs.Searches.{Searched};
@@ -14,42 +14,58 @@ use tasks::units::Ticks;
 // The largest number that a list may have.
 const LARGEST: Ticks = Ticks(100_000);
 
-// One number for each task, or how many there are of both.
-pub(crate) fn check_count(table: &Table, list: &[Ticks]) -> Result<(), (usize, usize)>
-    ensures { refusal result ≡ counts (draft_of table.now) list.now }
-{
-    let tasks = table.count() as usize;
-    if list.len() == tasks {
-        Ok(())
-    } else {
-        Err((list.len(), tasks))
-    }
+// A list with one number for each task of a table.
+#[derive(Clone, Copy)]
+pub(crate) struct Numbers<'a> {
+    table: &'a Table,
+    list: &'a [Ticks],
+    ghost each: { length list.now ≡ (draft_of table.now).count },
+    ghost few: { length list.now ≤ 32 },
 }
 
-// The first number that does not pass.
-fn check_each<F: Fn(Excess) -> bool>(list: &[Ticks], passes: F) -> Result<(), Excess>
-    requires few { length list.now ≤ 32 }
-    requires callable { F.IsAlwaysCallable passes }
-    ensures { Searched (λ k. F.post passes (at_slot list.now k)) (length list.now) (at_slot list.now) result }
-{
-    for (slot, ticks) in list.iter().enumerate() {
-        let number = Excess {
-            task: slot as u32 + 1,
-            ticks: *ticks,
-        };
-        if !passes(number) {
-            return Err(number);
+impl<'a> Numbers<'a> {
+    // The list, or how many numbers and tasks there are.
+    pub(crate) fn new(table: &'a Table, list: &'a [Ticks]) -> Result<Numbers<'a>, (usize, usize)>
+        ensures refused { refusal result ≡ counts (draft_of table.now) list.now }
+        ensures made { IfOk result (λ n. (n.table.now ≡ table.now) × (n.list.now ≡ list.now)) }
+    {
+        let tasks = table.count() as usize;
+        if list.len() != tasks {
+            return Err((list.len(), tasks));
         }
+        Ok(Numbers { table, list })
     }
-    Ok(())
-}
 
-// No number is above 100,000.
-pub(crate) fn check_sizes(list: &[Ticks]) -> Result<(), Excess>
-    requires { length list.now ≤ 32 }
-    ensures { refusal result ≡ too_large list.now }
-{
-    check_each(list, |number| number.ticks <= LARGEST)
+    // The first number that does not pass.
+    fn check_each<F: Fn(Excess) -> bool>(&self, passes: F) -> Result<(), Excess>
+        requires { F.IsAlwaysCallable passes }
+        ensures { Searched (λ k. F.post passes (at_slot self.now.list.now k)) (length self.now.list.now) (at_slot self.now.list.now) result }
+    {
+        for (slot, ticks) in self.list.iter().enumerate() {
+            let number = Excess {
+                task: slot as u32 + 1,
+                ticks: *ticks,
+            };
+            if !passes(number) {
+                return Err(number);
+            }
+        }
+        Ok(())
+    }
+
+    // No number is above 100,000.
+    pub(crate) fn check_sizes(&self) -> Result<(), Excess>
+        ensures { refusal result ≡ too_large self.now.list.now }
+    {
+        self.check_each(|number| number.ticks <= LARGEST)
+    }
+
+    // No low task has a budget but 0.
+    pub(crate) fn check_levels(&self) -> Result<(), Excess>
+        ensures { refusal result ≡ low_budget (draft_of self.now.table.now) self.now.list.now }
+    {
+        self.check_each(|budget| may_have(self.table, budget))
+    }
 }
 
 // Whether the task may have this budget.
@@ -57,14 +73,6 @@ fn may_have(table: &Table, budget: Excess) -> bool
     ensures { (k : ℕ) → budget.task ≡ k + 1 → k < (draft_of table.now).count → result ≡ may_have ((draft_of table.now).task k).criticality budget.ticks.0 }
 {
     table.level(budget.task) != Some(Level::Low) || budget.ticks == Ticks(0)
-}
-
-// No low task has a budget but 0.
-pub(crate) fn check_levels(table: &Table, budgets: &[Ticks]) -> Result<(), Excess>
-    requires { (length budgets.now ≡ (draft_of table.now).count) × (length budgets.now ≤ 32) }
-    ensures { refusal result ≡ low_budget (draft_of table.now) budgets.now }
-{
-    check_each(budgets, |budget| may_have(table, budget))
 }
 
 // The numbers by slot, and 0 behind them.
