@@ -25,7 +25,7 @@ impl TickList {
     pub(crate) fn as_slice(&self) -> &[Ticks]
         ensures { result.now ≡ listing self.now }
     {
-        &self.slots[0..self.count]
+        &self.slots[..self.count]
     }
 }
 
