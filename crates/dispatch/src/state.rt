@@ -8,7 +8,7 @@ use order::mask::{with_slot, without_slot};
 use runs::answer::{Job, Mode};
 use tasks::units::Ticks;
 
-// What a dispatcher keeps between calls. Task number k + 1 stands at slot k.
+// What a dispatcher keeps between calls. Task number k + 1 stands at slot k. Jobs and last arrivals are two lists and not one of pairs: a choice is lent the jobs alone.
 #[derive(Drop)]
 pub(crate) struct Core {
     // the rule's weights or total were not the table's at the making

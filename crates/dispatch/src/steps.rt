@@ -36,7 +36,7 @@ pub(crate) fn denied<R: Rule>(rule: &mut R, mode: Mode, first: Taken) -> bool
     asks(mode, first) && !rule.grant(first.number, first.job.run)
 }
 
-// Whether a grant would be denied.
+// Whether a grant would be denied. Apart from `denied`, which alters the rule: one function over the question would state both contracts at each call.
 pub(crate) fn would_deny<R: Rule>(rule: &R, mode: Mode, first: Taken) -> bool
     ensures { result ≡ is_denied (R.Rule.meaning rule.now).yes (asked_of mode first) }
 {

@@ -31,7 +31,7 @@ pub struct Answer {
     pub task: Option<u32>,
     // the mode in which it ran
     pub mode: Mode,
-    // whether this tick changed the mode from low to high
+    // whether this tick changed the mode from low to high; the flag and the set are both told, and a tick without a switch drops the empty set
     pub switched: bool,
     // the tasks whose jobs were dropped at the switch: bit i - 1 for task i
     pub dropped: u32,
