@@ -2,6 +2,7 @@ use super::example::{NEEDS, TICKS};
 use budget::shared::Shared;
 use dispatch::dispatcher::Dispatcher;
 use order::by_number::ByNumber;
+use order::slots::Slots;
 use runs::answer::{Answer, Ending, Mode};
 use runs::call::Mark;
 use std::io;
@@ -83,12 +84,9 @@ fn print_answer(rt: &HostRuntime, answer: Answer) -> io::Result<()> {
     println!(rt; "  Clock {clock}: task {task} runs in {mode} mode{ending}.")
 }
 
-// A plain loop: after a filter it is not known that a slot is below 32, as `slot + 1` needs.
 fn print_dropped(rt: &HostRuntime, dropped: u32) -> io::Result<()> {
-    for slot in 0..32u32 {
-        if dropped & (1 << slot) != 0 {
-            println!(rt; "    The job of task {} is dropped.", slot + 1)?;
-        }
+    for slot in Slots::of(dropped) {
+        println!(rt; "    The job of task {} is dropped.", slot + 1)?;
     }
     Ok(())
 }
