@@ -1,9 +1,12 @@
 -- Slots that are written, by task number, and states field by field.
-use Rattle.std.proofs.Common.{◌≡◌, ℕ, zero, suc, ◌^◌, ◌<◌, Bool, true, false, cond, eqb, ◌≢◌, List, length, get_or, set, is_some, Some, None, Option, sym, refl, ap, ◌∙◌, arith, get_or-set_other, get_or-set_same}
+use Rattle.std.proofs.Common.{◌≡◌, ℕ, zero, suc, ◌^◌, ◌<◌, Bool, true, false, cond, eqb, ◌≢◌, List, length, slice_get, get_or, set, is_some, Some, None, Option, sym, refl, ap, ◌∙◌, arith, get_or-set_other, get_or-set_same}
 use mathlib.Core.Path.{fun_ext}
 use native.Mathlib.Decide.{ℕ_discrete}
 use lib.Count.{count_trailing_zeros}
+use Rattle.std.specs.Option.{option_flatten, unwrap_or}
 use Rattle.std.proofs.lemmas.Bool.{ne_eqb, eq-eqb}
+use Rattle.std.proofs.lemmas.Option.{unwrap_or-slice_get}
+use Rattle.tasks.specs.Slots.{at_number}
 use Rattle.order.specs.Bits.{bit}
 use Rattle.order.proofs.Bits.{bit_none, lowest_set}
 use Rattle.runs.specs.declared.answer.Job.{Job}
@@ -13,6 +16,15 @@ use Rattle.runs.specs.Ticking.{none_pending}
 use Rattle.runs.proofs.Choosing.{none_pending_true, none_pending_false}
 use Rattle.dispatch.specs.Cores.{Agrees, masked}
 use Rattle.dispatch.proofs.Chosen.{some_of}
+
+-- what a list of options has for a number
+pub seat_numbered : {A : Type 0} (xs : List (Option A)) (i : ℕ) → option_flatten (at_number xs i) ≡ seat xs i
+seat_numbered xs zero = refl
+seat_numbered xs (suc k) = flat (slice_get xs k) ∙ unwrap_or-slice_get xs k None
+  where
+    flat : {A : Type 0} (o : Option (Option A)) → option_flatten o ≡ unwrap_or o None
+    flat None = refl
+    flat (Some o) = refl
 
 pub state_is : (s t : State) → s.foreign ≡ t.foreign → s.clock ≡ t.clock → s.mode ≡ t.mode → s.job ≡ t.job → s.last ≡ t.last → s ≡ t
 state_is s t ef ec em ej el =

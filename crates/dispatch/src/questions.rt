@@ -13,13 +13,13 @@ ghost use Rattle.dispatch.specs.Cores.{state_of};
 ghost use Rattle.dispatch.specs.Questions.{task_run, age_at, plain, is_pending, lowest_task};
 
 use super::dispatcher::Dispatcher;
-use super::lookup::at;
 use super::lowest::lowest_task;
 use super::steps::would_deny;
 use budget::rule::{Metered, Rule};
 use order::mask::slots_in;
 use order::tie_order::TieOrder;
 use runs::answer::{Job, Mode};
+use tasks::slots::at_number;
 use tasks::units::Ticks;
 
 // Questions, which alter nothing.
@@ -50,8 +50,7 @@ impl<'o, R: Rule, O: TieOrder> Dispatcher<'o, R, O> {
         ensures is { result ≡ (state_of self.now.core).job task }
         ensures log { (kind : Kind) (log : List Entry) → Produced kind (draft_of self.now.table) (O.TieOrder.ahead self.now.order.now) log (R.Rule.meaning self.now.rule) (state_of self.now.core) → result ≡ shown task log }
     {
-        let slot = task.checked_sub(1)?;
-        at(&self.core.jobs, slot)
+        at_number(&self.core.jobs, task).flatten()
     }
 
     // The age of a task's pending job: the ticks since its arrival. It is always below the task's period.

@@ -1,9 +1,8 @@
 ghost use Rattle.std.specs.Prelude.{◌≡◌, ℕ, length};
-ghost use Rattle.std.specs.Option.{unwrap_or};
-ghost use Rattle.table.specs.Tasks.{ticks};
 ghost use Rattle.budget.specs.Slots.{ticks_in};
 ghost use Rattle.needs.specs.Noted.{noted};
 
+use tasks::slots::at_number;
 use tasks::units::Ticks;
 
 // The need of each task's latest job, in ticks; 0 where none was noted, which no job ever meets. Task number k + 1 stands at slot k.
@@ -27,14 +26,7 @@ impl Needs {
     pub fn need(&self, task: u32) -> Ticks
         ensures { result.0 ≡ ticks_in self.now.slots task }
     {
-        self.noted(task).unwrap_or(Ticks(0))
-    }
-
-    // What stands at the slot of a number, if there is one.
-    fn noted(&self, task: u32) -> Option<Ticks>
-        ensures { (unwrap_or result (ticks 0)).0 ≡ ticks_in self.now.slots task }
-    {
-        self.slots.get(task.checked_sub(1)? as usize).copied()
+        at_number(&self.slots, task).unwrap_or(Ticks(0))
     }
 
     // Notes the need of a task's job. A number outside 1 to 32 is no task, and nothing is noted.
