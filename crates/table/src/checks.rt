@@ -3,7 +3,7 @@ ghost use Rattle.table.specs.Firsts.{refusal};
 ghost use Rattle.table.specs.Tasks.{slot};
 ghost use Rattle.table.specs.Verdict.{count_fault, scale_fault, factor_fault, total_fault, period_fault, deadline_fault, service_fault, task_fault, tasks_fault};
 
-use super::candidates::Candidates;
+use super::draft_tasks::DraftTasks;
 use super::unless::refuse_unless;
 use tasks::refusal::TableRefusal;
 use tasks::task::{Factor, Task};
@@ -39,6 +39,7 @@ pub(crate) fn check_total(total: Shares) -> Result<(), TableRefusal>
     refuse_unless(total <= Shares(1_000_000), TableRefusal::Total(total))
 }
 
+// Number and task are two parameters here and below, since they go into a refusal as two.
 fn check_service(number: u32, task: &Task) -> Result<(), TableRefusal>
     ensures { refusal result ≡ service_fault number task.now }
 {
@@ -48,7 +49,7 @@ fn check_service(number: u32, task: &Task) -> Result<(), TableRefusal>
     )
 }
 
-impl Candidates<'_> {
+impl DraftTasks<'_> {
     fn check_period(&self, number: u32, task: &Task) -> Result<(), TableRefusal>
         ensures { refusal result ≡ period_fault self.now.scale number task.now }
     {

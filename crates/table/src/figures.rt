@@ -4,9 +4,9 @@ ghost use Rattle.table.specs.Drafts.{as_drafted};
 ghost use Rattle.table.specs.Tasks.{slot, weight, low_assured, weighted};
 ghost use Rattle.table.specs.Verdict.{tasks_fault, figures_of, figures_fault, shape_fault, tests_by, tests_of};
 
-use super::candidates::Candidates;
 use super::checks::{check_count, check_factor, check_scale, check_total};
 use super::draft::Draft;
+use super::draft_tasks::DraftTasks;
 use tasks::refusal::TableRefusal;
 use tasks::task::{Comparison, Figures, Task, Tests};
 use tasks::units::{Shares, Ticks};
@@ -20,7 +20,7 @@ fn share_of(scale: Shares, task: &Task, part: Ticks) -> Shares
     Shares(scale.0 / task.period.0 * part.0)
 }
 
-impl Candidates<'_> {
+impl DraftTasks<'_> {
     // The sum of weight times part over the tasks: a loop with an index, as every sum over a table's tasks here.
     fn weighted_sum<F: Fn(&Task) -> Ticks>(&self, part: F) -> Shares
         ghost part_of: { Task → ℕ }
@@ -58,13 +58,13 @@ pub fn figures(scale: Shares, tasks: &[Task]) -> Result<Figures, TableRefusal>
 {
     check_count(tasks.len())?;
     check_scale(scale)?;
-    let candidates = Candidates {
+    let draft_tasks = DraftTasks {
         scale,
         factor: None,
         tasks,
     };
-    candidates.check()?;
-    Ok(candidates.figures())
+    draft_tasks.check()?;
+    Ok(draft_tasks.figures())
 }
 
 impl Draft<'_> {
@@ -95,12 +95,12 @@ impl Draft<'_> {
         check_scale(self.scale)?;
         check_factor(self.factor)?;
         check_total(self.total)?;
-        let candidates = Candidates {
+        let draft_tasks = DraftTasks {
             scale: self.scale,
             factor: Some(self.factor),
             tasks: self.tasks,
         };
-        candidates.check()?;
-        Ok(self.tests_by(candidates.figures()))
+        draft_tasks.check()?;
+        Ok(self.tests_by(draft_tasks.figures()))
     }
 }

@@ -2,9 +2,9 @@
 #![tactic(auto)]
 
 pub mod accept;
-mod candidates;
 mod checks;
 pub mod draft;
+mod draft_tasks;
 pub mod figures;
 pub mod readers;
 pub mod table;

@@ -6,7 +6,7 @@ use tasks::units::Shares;
 
 // Tasks to test one by one, the scale that they share, and the factor where it is known. Their count, the scale and the factor have passed their own tests.
 #[derive(Clone, Copy)]
-pub(crate) struct Candidates<'a> {
+pub(crate) struct DraftTasks<'a> {
     pub(crate) scale: Shares,
     pub(crate) factor: Option<Factor>,
     pub(crate) tasks: &'a [Task],

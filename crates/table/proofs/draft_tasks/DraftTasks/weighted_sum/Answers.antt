@@ -5,7 +5,7 @@ use Rattle.table.specs.Verdict.{task_fault}
 use Rattle.table.proofs.Accepted.{period_low_of, worst_high_of, assured_high_of}
 use Rattle.table.proofs.Firsts.{first_below_at}
 use Rattle.table.proofs.Sums.{sum_none, sum_next}
-use Rattle.table.proofs.candidates.Candidates.weighted_sum.Goals as goal
+use Rattle.table.proofs.draft_tasks.DraftTasks.weighted_sum.Goals as goal
 
 pub share_of-sum-requires : goal.share_of-sum-requires
 share_of-sum-requires g c =

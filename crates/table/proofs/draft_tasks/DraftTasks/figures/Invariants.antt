@@ -1,5 +1,5 @@
 use Rattle.table.specs.Tasks.{low_assured, low_rest, high_worst}
-use Rattle.table.proofs.candidates.Candidates.figures.Given as goal
+use Rattle.table.proofs.draft_tasks.DraftTasks.figures.Given as goal
 
 abbrev pub ghost-weighted_sum : goal.ghost-weighted_sum
 ghost-weighted_sum a = low_assured

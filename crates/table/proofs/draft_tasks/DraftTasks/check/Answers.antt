@@ -4,7 +4,7 @@ use Rattle.tasks.specs.declared.refusal.TableRefusal.{TableRefusal}
 use Rattle.table.specs.Tasks.{slot}
 use Rattle.table.specs.Verdict.{task_fault}
 use Rattle.table.proofs.Firsts.{first_below_none, first_below_next, first_below_here}
-use Rattle.table.proofs.candidates.Candidates.check.Goals as goal
+use Rattle.table.proofs.draft_tasks.DraftTasks.check.Goals as goal
 
 pub loop-i-init : goal.loop-i-init
 loop-i-init c = first_below_none _
