@@ -8,7 +8,7 @@ use tasks::units::{Shares, Ticks};
 pub const TICKS: usize = 6;
 
 // The ticks that each task's job needs.
-pub const NEEDS: [u64; 3] = [2, 1, 2];
+pub const NEEDS: [Ticks; 3] = [Ticks(2), Ticks(1), Ticks(2)];
 
 // Table E: one low task that draws, two high ones that move things.
 pub fn table_e() -> Result<Table, TableRefusal> {

@@ -1,34 +1,37 @@
 use super::example::{NEEDS, TICKS};
 use budget::shared::Shared;
 use dispatch::dispatcher::Dispatcher;
+use needs::needs::Needs;
 use order::by_number::ByNumber;
 use order::slots::Slots;
 use runs::answer::{Answer, Ending, Mode};
-use runs::call::Mark;
 use std::io;
 use table::table::Table;
-use tasks::slots::at_number;
+use tasks::units::Ticks;
 
 type Line<'o> = Dispatcher<'o, Shared, ByNumber>;
 
 // Three jobs arrive at clock 0, and six ticks pass.
 pub fn print_run(rt: &HostRuntime, table: &Table) -> io::Result<()> {
     let mut line = Dispatcher::new(table, Shared::new(table), &ByNumber);
+    let mut needs = Needs::new();
     println!(rt; "Table E under the shared budget")?;
     for (task, need) in (1..).zip(NEEDS) {
         print_arrival(rt, &mut line, task, need)?;
+        needs.note(task, need);
     }
     for _ in 0..TICKS {
-        print_tick(rt, &mut line)?;
+        print_tick(rt, &mut line, &needs)?;
     }
     println!(rt; "")
 }
 
-fn print_arrival(rt: &HostRuntime, line: &mut Line<'_>, task: u32, need: u64) -> io::Result<()> {
+fn print_arrival(rt: &HostRuntime, line: &mut Line<'_>, task: u32, need: Ticks) -> io::Result<()> {
     let clock = line.clock().0;
     match line.arrive(task) {
         Ok(()) => println!(rt;
-            "  Clock {clock}: a job of task {task} arrives. Ticks that it needs: {need}."
+            "  Clock {clock}: a job of task {task} arrives. Ticks that it needs: {}.",
+            need.0
         ),
         Err(refusal) => println!(rt;
             "  Clock {clock}: a job of task {task} is refused by number {}.",
@@ -37,23 +40,8 @@ fn print_arrival(rt: &HostRuntime, line: &mut Line<'_>, task: u32, need: u64) ->
     }
 }
 
-// The ticks that the job which runs next still needs, if there is one.
-fn left_to_run(line: &Line<'_>) -> Option<u64> {
-    let task = line.coming()?;
-    let job = line.job(task)?;
-    at_number(&NEEDS, task)?.checked_sub(job.run.0)
-}
-
-// A tick is marked done where the task that it runs has then had what it needs.
-fn mark_of(line: &Line<'_>) -> Mark {
-    match left_to_run(line) {
-        Some(1) => Mark::Done,
-        _ => Mark::NotDone,
-    }
-}
-
-fn print_tick(rt: &HostRuntime, line: &mut Line<'_>) -> io::Result<()> {
-    let mark = mark_of(line);
+fn print_tick(rt: &HostRuntime, line: &mut Line<'_>, needs: &Needs) -> io::Result<()> {
+    let mark = needs.mark(line);
     match line.tick(mark) {
         Ok(answer) => print_answer(rt, answer),
         Err(refusal) => println!(rt; "  The tick is refused by number {}.", refusal.number()),

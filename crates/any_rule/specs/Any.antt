@@ -14,9 +14,13 @@ use Rattle.any_rule.specs.Either.{of_either}
 abbrev pub Base : Type 0
 Base = OneOf Shared Fixed
 
--- the same, with or without a ceiling
+-- one of them under a ceiling
+abbrev pub Capped : Type 0
+Capped = OneOf (Ceiling Shared) (Ceiling Fixed)
+
+-- either of these, with or without a ceiling
 abbrev pub Any : Type 0
-Any = OneOf Base (Ceiling Base)
+Any = OneOf Base Capped
 
 abbrev pub meaning_of_base : Base → Meaning
 meaning_of_base = of_either meaning_of_shared meaning_of_fixed
@@ -28,10 +32,16 @@ abbrev pub budget_of_base : Base → ℕ → ℕ
 budget_of_base = of_either budget_of_shared budget_of_fixed
 
 abbrev pub meaning_of_any : Any → Meaning
-meaning_of_any = of_either meaning_of_base (λ c. under_ceiling (meaning_of_base c.rule) (ticks_in c.ceilings))
+meaning_of_any = of_either meaning_of_base (of_either
+    (λ c. under_ceiling (meaning_of_shared c.rule) (ticks_in c.ceilings))
+    (λ c. under_ceiling (meaning_of_fixed c.rule) (ticks_in c.ceilings)))
 
 abbrev pub policy_of_any : Any → (ℕ → ℕ) → ℕ → ℕ → Bool
-policy_of_any = of_either policy_of_base (λ c. policy_under (policy_of_base c.rule) (ticks_in c.ceilings))
+policy_of_any = of_either policy_of_base (of_either
+    (λ c. policy_under (policy_of_shared c.rule) (ticks_in c.ceilings))
+    (λ c. policy_under (policy_of_fixed c.rule) (ticks_in c.ceilings)))
 
 abbrev pub budget_of_any : Any → ℕ → ℕ
-budget_of_any = of_either budget_of_base (λ c i. min (budget_of_base c.rule i) (ticks_in c.ceilings i))
+budget_of_any = of_either budget_of_base (of_either
+    (λ c i. min (budget_of_shared c.rule i) (ticks_in c.ceilings i))
+    (λ c i. min (budget_of_fixed c.rule i) (ticks_in c.ceilings i)))

@@ -7,7 +7,7 @@ ghost use Rattle.table.specs.Tables.{draft_of};
 ghost use Rattle.budget.specs.Making.{ceiling_fault};
 ghost use Rattle.budget.specs.Rules.{under_ceiling, policy_under};
 ghost use Rattle.budget.specs.Slots.{ticks_in};
-ghost use Rattle.any_rule.specs.Any.{meaning_of_base, policy_of_base, meaning_of_any, policy_of_any};
+ghost use Rattle.any_rule.specs.Any.{Any, meaning_of_base, policy_of_base, meaning_of_any, policy_of_any, budget_of_any};
 ghost use Rattle.any_rule.specs.Either.{of_either};
 ghost use Rattle.any_rule.specs.declared.OneOf.TheVariants.{First, Second};
 
@@ -29,8 +29,18 @@ pub enum OneOf<A, B> {
 // A rule without a ceiling.
 pub type BaseRule = OneOf<Shared, Fixed>;
 
+// A rule under a ceiling.
+pub type CappedRule = OneOf<Ceiling<Shared>, Ceiling<Fixed>>;
+
 // A rule with or without a ceiling.
-pub type AnyRule = OneOf<BaseRule, Ceiling<BaseRule>>;
+pub type AnyRule = OneOf<BaseRule, CappedRule>;
+
+// The meaning, the policy and the budgets of such a rule are the defined ones.
+pub fn any_rule_is_as_defined()
+    ensures meaning { (rule : Any) → ⟦<AnyRule as Rule>⟧.meaning rule ≡ meaning_of_any rule }
+    ensures policy { (rule : Any) → ⟦<AnyRule as Rule>⟧.policy rule ≡ policy_of_any rule }
+    ensures budget { (rule : Any) → ⟦<AnyRule as Metered>⟧.allowance rule ≡ budget_of_any rule }
+{}
 
 impl From<Shared> for BaseRule {
     ghost from_gives = { λ shared base. base ≡ First shared };
@@ -63,8 +73,11 @@ impl BaseRule {
         ensures meaning { elim result [ Ok a ↦ meaning_of_any a ≡ under_ceiling (meaning_of_base self) (ticks_in ceilings.now) | Err e ↦ Unit {0} ] }
         ensures policy { elim result [ Ok a ↦ policy_of_any a ≡ policy_under (policy_of_base self) (ticks_in ceilings.now) | Err e ↦ Unit {0} ] }
     {
-        let ceiling = Ceiling::new(table, self, ceilings).map_err(|refused| refused.refusal)?;
-        Ok(OneOf::Second(ceiling))
+        let capped = match self {
+            OneOf::First(rule) => OneOf::First(Ceiling::new(table, rule, ceilings)?),
+            OneOf::Second(rule) => OneOf::Second(Ceiling::new(table, rule, ceilings)?),
+        };
+        Ok(OneOf::Second(capped))
     }
 }
 

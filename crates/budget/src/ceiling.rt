@@ -27,6 +27,14 @@ pub struct CeilingRefused<R> {
     pub refusal: CeilingRefusal,
 }
 
+impl<R: Drop> From<CeilingRefused<R>> for CeilingRefusal {
+    ghost from_gives = { λ refused refusal. refusal ≡ refused.refusal };
+
+    fn from(refused: CeilingRefused<R>) -> CeilingRefusal {
+        refused.refusal
+    }
+}
+
 fn check_ceilings(table: &Table, ceilings: &[Ticks]) -> Result<(), CeilingRefusal>
     ensures { refusal result ≡ ceiling_fault (draft_of table.now) ceilings.now }
 {

@@ -23,7 +23,7 @@ pub enum FixedRefusal {
 }
 
 impl FixedRefusal {
-    // The refusal's number. A method, as each refusal has it: `u8::from` would not say what the byte is.
+    // The refusal's number. A method, as each refusal has it: `u8::from` would not say what the byte is, and nothing takes any refusal, as a trait would serve.
     pub fn number(&self) -> u8
         ensures { result ≡ fixed_number self.now }
     {
@@ -56,7 +56,7 @@ pub enum CeilingRefusal {
 }
 
 impl CeilingRefusal {
-    // The refusal's number. A method, as each refusal has it: `u8::from` would not say what the byte is.
+    // The refusal's number. A method, as each refusal has it: `u8::from` would not say what the byte is, and nothing takes any refusal, as a trait would serve.
     pub fn number(&self) -> u8
         ensures { result ≡ ceiling_number self.now }
     {

@@ -4,7 +4,7 @@ ghost use Rattle.budget.specs.Meaning.{Meaning, Bounded, Silent, Fits, Granted, 
 use tasks::units::{Shares, Ticks};
 
 // May this job have one more tick? A rule answers by its meaning: its weights, its total, the longest run of each task since
-// the last rest, and a yes or no for each task and run. What the yes set of a further rule becomes after a grant or a rest is its
+// the last rest, and a yes or no for each task and run (two parameters, as the question is asked). What the yes set of a further rule becomes after a grant or a rest is its
 // own; the laws bind it.
 pub trait Rule {
     ghost meaning: { Self → Meaning };

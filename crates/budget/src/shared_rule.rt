@@ -37,6 +37,7 @@ impl Rule for Shared {
     }
 
     fn grant(&mut self, task: u32, run: Ticks) -> bool {
+        // not by `ask`: a run below the budget is known to have room for one tick more
         let may = run < self.budget(task);
         if may {
             self.tally.raise(task, run);

@@ -4,7 +4,7 @@ ghost use Rattle.budget.specs.Slots.{weight_in, ticks_in};
 
 use tasks::units::{Shares, Ticks};
 
-// The weights of a table's high tasks, by slot, and the total that they draw on. The memory is fixed: 32 slots beside the count of tasks.
+// The weights of a table's high tasks, by slot, and the total that they draw on. The memory is fixed: 32 slots, and the count of tasks beside them, to which the load's loop keeps.
 #[derive(Clone, Copy)]
 pub(crate) struct Weights {
     pub(crate) count: usize,

@@ -6,6 +6,7 @@ use budget::rule::Rule;
 use order::tie_order::TieOrder;
 use table::table::Table;
 
+// Clauses name its parts: a model could not cite the meaning of a rule that is a type parameter.
 // A dispatcher over a copy of its table, with a rule of its own and a borrowed order.
 #[derive(Drop)]
 pub struct Dispatcher<'o, R: Rule, O: TieOrder> {

@@ -20,7 +20,7 @@ use runs::call::Mark;
 use tasks::task::{Criticality, Task};
 use tasks::units::Ticks;
 
-// Whether the rule is asked about the first job: in low mode, if it is high.
+// Whether the rule is asked about the first job: in low mode, if it is high. The mode is a parameter beside the turn here and below: it is the dispatcher's own, and no turn keeps it.
 fn asks(mode: Mode, first: Taken) -> bool
     ensures { asked_of mode first ≡ then_some result (turn_of_taken first) }
 {

@@ -38,7 +38,7 @@ fn compare(text: &[u8], expected: &[u8]) -> Result<u64, Difference> {
     let mut board = Board::new(text);
     let mut rest = expected;
     let mut line = [0u8; 40];
-    // Counted by hand: the lines come one by one into the same buffer, so no iterator numbers them.
+    // Counted by hand: a `for` over numbers would need a `break`, and hide that the loop ends with the transcript.
     let mut lines: u64 = 0;
     while let Ok(Some(length)) = board.pull(&mut line) {
         lines = lines.saturating_add(1);

@@ -5,7 +5,7 @@ ghost use Rattle.needs.specs.Noted.{noted};
 use tasks::slots::at_number;
 use tasks::units::Ticks;
 
-// The need of each task's latest job, in ticks; 0 where none was noted, which no job ever meets. Task number k + 1 stands at slot k.
+// The need of each task's latest job, in ticks; 0 where none was noted, which no job ever meets, so no `Option` has to be asked. Task number k + 1 stands at slot k.
 #[derive(Clone, Copy)]
 pub struct Needs {
     pub(crate) slots: [Ticks; 32],
@@ -29,7 +29,7 @@ impl Needs {
         at_number(&self.slots, task).unwrap_or(Ticks(0))
     }
 
-    // Notes the need of a task's job. A number outside 1 to 32 is no task, and nothing is noted.
+    // Notes the need of a task's job; nothing holds the two as a pair. A number outside 1 to 32 is no task, and nothing is noted.
     pub fn note(&mut self, task: u32, need: Ticks)
         ensures { (i : ℕ) → ticks_in self.new.slots i ≡ noted (ticks_in self.old.slots) task need.0 i }
     {

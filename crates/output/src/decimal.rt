@@ -3,7 +3,7 @@ ghost use Rattle.output.specs.Written.{over_if, behind_if};
 
 use std::marker::Model;
 
-// The digits of a number in base ten, which end where the array ends. They are made by hand: what `write!` writes is promised only where it answers Ok, and no contract says when it does.
+// The digits of a number in base ten, which end where the array ends. They are made by hand: what `write!` writes is promised only where it answers Ok, and no contract says when it does. The repository stands on `std` alone, so no crate makes them either.
 #[derive(Drop)]
 pub(crate) struct Digits {
     bytes: [u8; 20],

@@ -24,7 +24,7 @@ pub enum Layer {
     Rule,
 }
 
-// Where and why a scenario stops. Line 0 is the text as a whole: lines count from 1, and 0 is what is printed for it.
+// Where and why a scenario stops. Line 0 is the text as a whole: lines count from 1, and an `Option` would be turned into that 0 wherever a fault is read.
 #[derive(Clone, Copy, PartialEq, Eq, Debug)]
 pub struct Fault {
     pub line: u32,

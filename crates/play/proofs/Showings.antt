@@ -13,7 +13,7 @@ use Rattle.runs.specs.Programs.{asked_meaning, rested_meaning, meaning_by, meani
 use Rattle.runs.specs.States.{State, Judged, OfTable}
 use Rattle.runs.specs.Ticking.{Asked, LetRest, Consulted, RuleAfter, rule_after_by, tick_fault, asked, outcome}
 use Rattle.any_rule.specs.declared.OneOf.TheVariants.{First, Second}
-use Rattle.any_rule.specs.Any.{Base, Any, meaning_of_base, policy_of_base, meaning_of_any, policy_of_any}
+use Rattle.any_rule.specs.Any.{Any, meaning_of_any, policy_of_any}
 use Rattle.transcript.specs.Policies.{Policy, at_longest, by_policy, at_rest}
 use Rattle.transcript.specs.Shows.{Show}
 
@@ -33,13 +33,11 @@ meaning_is m n ew et el ey =
     ∙ ap (λ x. record { weight = n.weight; total = n.total; longest = n.longest; yes = x }) ey
 
 -- a rule says what its policy says at its longest runs
-told_base : (r : Base) → (meaning_of_base r).yes ≡ policy_of_base r (meaning_of_base r).longest
-told_base (First s) = refl
-told_base (Second f) = refl
-
 pub told : (r : Any) → (meaning_of_any r).yes ≡ policy_of_any r (meaning_of_any r).longest
-told (First b) = told_base b
-told (Second c) = ap (λ yes i run. yes i run && nat_lt run (ticks_in c.ceilings i)) (told_base c.rule)
+told (First (First s)) = refl
+told (First (Second f)) = refl
+told (Second (First c)) = refl
+told (Second (Second c)) = refl
 
 pub not_foreign : (b : Bool) (d : Draft) (m : Meaning) → Judged b d m → OfTable d m → b ≡ false
 not_foreign true d m j of = absurd (j of)

@@ -20,7 +20,7 @@ pub enum ArrivalRefusal {
 }
 
 impl ArrivalRefusal {
-    // The refusal's number. A method, as each refusal has it: `u8::from` would not say what the byte is.
+    // The refusal's number. A method, as each refusal has it: `u8::from` would not say what the byte is, and nothing takes any refusal, as a trait would serve.
     pub fn number(&self) -> u8
         ensures { result ≡ arrival_number self.now }
     {
@@ -44,7 +44,7 @@ pub enum TickRefusal {
 }
 
 impl TickRefusal {
-    // The refusal's number. A method, as each refusal has it: `u8::from` would not say what the byte is.
+    // The refusal's number. A method, as each refusal has it: `u8::from` would not say what the byte is, and nothing takes any refusal, as a trait would serve.
     pub fn number(&self) -> u8
         ensures { result ≡ tick_number self.now }
     {

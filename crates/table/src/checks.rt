@@ -39,41 +39,50 @@ pub(crate) fn check_total(total: Shares) -> Result<(), TableRefusal>
     refuse_unless(total <= Shares(1_000_000), TableRefusal::Total(total))
 }
 
-// Number and task are two parameters here and below, since they go into a refusal as two.
-fn check_service(number: u32, task: &Task) -> Result<(), TableRefusal>
-    ensures { refusal result ≡ service_fault number task.now }
+// A drafted task, under its number.
+#[derive(Clone, Copy)]
+struct Entry {
+    number: u32,
+    task: Task,
+}
+
+fn check_service(entry: Entry) -> Result<(), TableRefusal>
+    ensures { refusal result ≡ service_fault entry.number entry.task }
 {
+    let Entry { number, task } = entry;
     refuse_unless(
         (Ticks(1)..=task.period).contains(&task.worst) && task.low_assured() <= task.worst,
-        TableRefusal::Service(number, *task),
+        TableRefusal::Service(number, task),
     )
 }
 
 impl DraftTasks<'_> {
-    fn check_period(&self, number: u32, task: &Task) -> Result<(), TableRefusal>
-        ensures { refusal result ≡ period_fault self.now.scale number task.now }
+    fn check_period(&self, entry: Entry) -> Result<(), TableRefusal>
+        ensures { refusal result ≡ period_fault self.now.scale entry.number entry.task }
     {
+        let Entry { number, task } = entry;
         refuse_unless(
             (Ticks(1)..=Ticks(100_000)).contains(&task.period) && self.scale.0 % task.period.0 == 0,
-            TableRefusal::Period(number, *task),
+            TableRefusal::Period(number, task),
         )
     }
 
-    fn check_deadline(&self, number: u32, task: &Task) -> Result<(), TableRefusal>
-        ensures { refusal result ≡ deadline_fault self.now.factor number task.now }
+    fn check_deadline(&self, entry: Entry) -> Result<(), TableRefusal>
+        ensures { refusal result ≡ deadline_fault self.now.factor entry.number entry.task }
     {
+        let Entry { number, task } = entry;
         let whole = self
             .factor
             .is_none_or(|f| f.p as u128 * task.period.0 as u128 % f.q as u128 == 0);
-        refuse_unless(whole, TableRefusal::VirtualDeadline(number, *task))
+        refuse_unless(whole, TableRefusal::VirtualDeadline(number, task))
     }
 
-    fn check_task(&self, number: u32, task: &Task) -> Result<(), TableRefusal>
-        ensures { refusal result ≡ task_fault self.now.scale self.now.factor number task.now }
+    fn check_task(&self, entry: Entry) -> Result<(), TableRefusal>
+        ensures { refusal result ≡ task_fault self.now.scale self.now.factor entry.number entry.task }
     {
-        self.check_period(number, task)?;
-        self.check_deadline(number, task)?;
-        check_service(number, task)
+        self.check_period(entry)?;
+        self.check_deadline(entry)?;
+        check_service(entry)
     }
 
     // The tests of each task; that of the virtual deadline where the factor is known.
@@ -81,7 +90,10 @@ impl DraftTasks<'_> {
         ensures { refusal result ≡ tasks_fault self.now.scale self.now.factor (length self.now.tasks.now) (slot self.now.tasks.now) }
     {
         for (i, task) in self.tasks.iter().enumerate() {
-            self.check_task(i as u32 + 1, task)?;
+            self.check_task(Entry {
+                number: i as u32 + 1,
+                task: *task,
+            })?;
         }
         Ok(())
     }

@@ -21,7 +21,7 @@ pub enum TableRefusal {
 }
 
 impl TableRefusal {
-    // The refusal's number. A method, as each refusal has it: `u8::from` would not say what the byte is.
+    // The refusal's number. A method, as each refusal has it: `u8::from` would not say what the byte is, and nothing takes any refusal, as a trait would serve.
     pub fn number(&self) -> u8
         ensures { result ≡ number_of self.now }
     {

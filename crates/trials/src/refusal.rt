@@ -9,7 +9,7 @@ pub enum CompareRefusal {
 }
 
 impl CompareRefusal {
-    // The refusal's number. A method, as each refusal has it: `u8::from` would not say what the byte is.
+    // The refusal's number. A method, as each refusal has it: `u8::from` would not say what the byte is, and nothing takes any refusal, as a trait would serve.
     pub fn number(&self) -> u8
         ensures { result ≡ compare_number self.now }
     {
