@@ -17,6 +17,7 @@ pub(crate) enum Course {
 }
 
 // What a line prints, and the ticks that it lets run.
+// Not an enum of nothing, a line and ticks: the board takes the two as they are, as its `held` and its `left`.
 #[derive(Clone, Copy)]
 pub(crate) struct Printed {
     pub(crate) line: Option<OutputLine>,

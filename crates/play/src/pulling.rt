@@ -1,4 +1,5 @@
 ghost use Rattle.std.specs.Prelude.{◌≡◌, ℕ, ◌<◌, ◌∷◌, Some, None, Ok, Err};
+ghost use Rattle.std.specs.Iterator.{YieldsFirst, item_count};
 ghost use Rattle.scenario.specs.Left.{first as first_of, others as others_of};
 ghost use Rattle.transcript.specs.Ages.{StaysYoung};
 ghost use Rattle.transcript.specs.Transcripts.{transcript};
@@ -117,5 +118,18 @@ impl<'a> Board<'a> {
             return Ok(None);
         };
         line.write(out).map(Some)
+    }
+}
+
+// The lines of the transcript that are still to come.
+impl Iterator for Board<'_> {
+    type Item = OutputLine;
+
+    ghost next_gives = { YieldsFirst to_come };
+
+    ghost remaining = { item_count to_come };
+
+    fn next(&mut self) -> Option<OutputLine> {
+        self.next_line()
     }
 }

@@ -14,7 +14,7 @@ use super::stop::Stop;
 use output::fault::Fault;
 use runs::answer::Answer;
 use scenario::lines::Line;
-use tasks::task::{Criticality, Factor, Task};
+use tasks::task::{Factor, Task};
 use tasks::units::{Shares, Ticks};
 
 const SILENT: Printed = Printed {
@@ -143,22 +143,12 @@ impl Course {
                 let total = Shares(u64::from(amount(total)));
                 self.open(Outline::new(scale, total, factor))
             }
-            Line::High { period, worst } => self.add(Task {
-                period: ticks(period),
-                worst: ticks(worst),
-                criticality: Criticality::High,
-            }),
+            Line::High { period, worst } => self.add(Task::high(ticks(period), ticks(worst))),
             Line::Low {
                 period,
                 worst,
                 assured,
-            } => self.add(Task {
-                period: ticks(period),
-                worst: ticks(worst),
-                criticality: Criticality::Low {
-                    assured: ticks(assured),
-                },
-            }),
+            } => self.add(Task::low(ticks(period), ticks(worst), ticks(assured))),
             Line::Shared => self.share(),
             Line::Fixed(fields) => self.fix(tick_list(fields).as_slice()),
             Line::Ceiling(fields) => self.cap(tick_list(fields).as_slice()),

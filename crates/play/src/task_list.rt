@@ -2,7 +2,7 @@ use std::marker::Model;
 use tasks::task::Task;
 
 // The tasks so far. With 33 tasks the table is refused whatever they are, so no more are kept.
-// Not one generic struct with TickList: calls would owe the size of an array of a type parameter.
+// Not one generic struct with TickList: calls would owe the size of an array of a type parameter. Nor a vector of another crate, since the repository stands on std alone.
 #[derive(Drop)]
 pub(crate) struct TaskList {
     slots: [Task; 33],

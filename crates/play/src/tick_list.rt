@@ -3,6 +3,7 @@ ghost use Rattle.std.specs.Prelude.{◌≡◌, ◌≤◌, length};
 use tasks::units::Ticks;
 
 // The numbers of a line, at most 32: the first `count` of fixed slots, as nothing here allocates.
+// Nor a vector of another crate, since the repository stands on std alone.
 #[derive(Clone, Copy)]
 pub(crate) struct TickList {
     pub(crate) slots: [Ticks; 32],
