@@ -19,7 +19,7 @@ use budget::shared::Shared;
 use table::table::Table;
 use tasks::units::{Shares, Ticks};
 
-// One of two rules.
+// One of two rules. Each method asks the rule that it is.
 #[derive(Clone, Copy)]
 pub enum OneOf<A, B> {
     First(A),

@@ -24,7 +24,7 @@ pub(crate) struct Numbers<'a> {
 }
 
 impl<'a> Numbers<'a> {
-    // The list, or how many numbers and tasks there are.
+    // The list, or how many numbers and tasks there are: a pair, as both refusals tell the two.
     pub(crate) fn new(table: &'a Table, list: &'a [Ticks]) -> Result<Numbers<'a>, (usize, usize)>
         ensures refused { refusal result ≡ counts (draft_of table.now) list.now }
         ensures made { IfOk result (λ n. (n.table.now ≡ table.now) × (n.list.now ≡ list.now)) }

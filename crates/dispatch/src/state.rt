@@ -15,7 +15,7 @@ pub(crate) struct Core {
     pub(crate) foreign: bool,
     pub(crate) clock: Ticks,
     pub(crate) mode: Mode,
-    // bit k for a pending job at slot k
+    // bit k for a pending job at slot k; kept beside the jobs, so that a choice costs the pending tasks alone
     pub(crate) pending: u32,
     pub(crate) jobs: [Option<Job>; 32],
     // the last accepted arrival of each task

@@ -1,10 +1,9 @@
 -- What the dispatcher's calls do to the run that it stands for.
-use Rattle.std.proofs.Common.{◌≡◌, ℕ, Bool, true, false, cond, ◌&&◌, nat_lt, Some, None, Option, sym, refl, ap, ◌∙◌, subst}
+use Rattle.std.proofs.Common.{◌≡◌, ℕ, Bool, true, false, cond, Some, None, Option, sym, refl, ap, ◌∙◌, subst}
 use mathlib.Core.Path.{fun_ext}
 use Rattle.table.specs.Verdict.{Draft}
 use Rattle.order.specs.Orders.{Ahead}
 use Rattle.budget.specs.Meaning.{Meaning, Granted, Rested, raised}
-use Rattle.budget.specs.Slots.{ticks_in}
 use Rattle.budget.specs.Weights.{rule_weight}
 use Rattle.runs.specs.declared.call.Mark.{Mark}
 use Rattle.runs.specs.declared.refusal.TickRefusal.{TickRefusal}

@@ -12,7 +12,7 @@ pub(crate) fn before(text: &[u8], stop: u8) -> &[u8]
         .map_or(text, |end| &text[..end])
 }
 
-// The fields of a line that are still to come, as the rest of the line's own bytes; behind the last field there is no rest.
+// The fields of a line that are still to come, as the rest of the line's own bytes; behind the last field there is no rest. Not the library's `split`: a line is copied with its fields, and that iterator is not.
 #[derive(Clone, Copy)]
 pub struct Fields<'a> {
     pub(crate) rest: Option<&'a [u8]>,

@@ -64,7 +64,7 @@ fn is_list(fields: Fields) -> bool
     (1..=32).contains(&fields.take(33).count())
 }
 
-// A line of this kind with these fields, if their count is right.
+// A line of this kind with these fields, if their count is right. The two are no pair: the fields are used up, and the kind is not.
 fn shaped<'a>(kind: Kind, mut fields: Fields<'a>) -> Option<Line<'a>>
     ensures { shown_some result ≡ (if right_count kind (length (to_come fields.entry)) then Some (item kind (to_come fields.entry)) else None) }
 {

@@ -4,7 +4,7 @@ ghost use Rattle.table.specs.Verdict.{drafted, verdict};
 use tasks::task::{Factor, Task};
 use tasks::units::Shares;
 
-// A table that exists has passed every test. Its memory is fixed: 32 slots beside the count of tasks, and blank slots past the last task.
+// A table that exists has passed every test. Its memory is fixed: 32 slots beside the count of tasks, and blank slots past the last task. Scale, total and factor stand apart, as its readers give them.
 #[derive(Clone, Copy)]
 pub struct Table {
     pub(crate) scale: Shares,
