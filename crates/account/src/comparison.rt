@@ -61,8 +61,8 @@ fn print_comparison(
         Ok(counts) => println!(rt;
             "  {title}: of {} ticks, {} come before the first switch under the shared budget, and {} under the fixed ones.",
             ticks_in(calls),
-            counts.shared.0,
-            counts.other.0
+            counts.shared,
+            counts.other
         ),
         Err(refusal) => println!(rt; "  {title}: refused by number {}.", refusal.number()),
     }

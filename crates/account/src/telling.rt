@@ -27,11 +27,10 @@ pub fn print_run(rt: &HostRuntime, table: &Table) -> io::Result<()> {
 }
 
 fn print_arrival(rt: &HostRuntime, line: &mut Line<'_>, task: u32, need: Ticks) -> io::Result<()> {
-    let clock = line.clock().0;
+    let clock = line.clock();
     match line.arrive(task) {
         Ok(()) => println!(rt;
-            "  Clock {clock}: a job of task {task} arrives. Ticks that it needs: {}.",
-            need.0
+            "  Clock {clock}: a job of task {task} arrives. Ticks that it needs: {need}."
         ),
         Err(refusal) => println!(rt;
             "  Clock {clock}: a job of task {task} is refused by number {}.",
@@ -49,7 +48,7 @@ fn print_tick(rt: &HostRuntime, line: &mut Line<'_>, needs: &Needs) -> io::Resul
 }
 
 fn print_answer(rt: &HostRuntime, answer: Answer) -> io::Result<()> {
-    let clock = answer.clock.0;
+    let clock = answer.clock;
     if answer.switched {
         println!(rt;
             "  Clock {clock}: the budget is used up, so the dispatcher switches to high mode and sheds low work."

@@ -71,9 +71,9 @@ impl DraftTasks<'_> {
         ensures { refusal result ≡ deadline_fault self.now.factor entry.number entry.task }
     {
         let Entry { number, task } = entry;
-        let whole = self
-            .factor
-            .is_none_or(|f| f.p as u128 * task.period.0 as u128 % f.q as u128 == 0);
+        let whole = self.factor.is_none_or(|f| u128::from(f.p) * u128::from(task.period.0)
+            % u128::from(f.q)
+            == 0);
         refuse_unless(whole, TableRefusal::VirtualDeadline(number, task))
     }
 

@@ -73,8 +73,8 @@ impl Draft<'_> {
         requires below { (figures.assured.0 ≤ 32 * 1000000) × (figures.optional.0 ≤ 32 * 1000000) × (figures.high.0 ≤ 32 * 1000000) }
         ensures { result ≡ tests_by self.now.scale self.now.total self.now.factor figures }
     {
-        let p = self.factor.p as u64;
-        let q = self.factor.q as u64;
+        let p = u64::from(self.factor.p);
+        let q = u64::from(self.factor.q);
         Tests {
             low: Comparison {
                 demand: Shares(q * self.total.0 + q * figures.assured.0 + p * figures.optional.0),

@@ -18,8 +18,8 @@ pub fn print_account(rt: &HostRuntime, title: &str, draft: &Draft<'_>) -> io::Re
 }
 
 fn print_table(rt: &HostRuntime, draft: &Draft<'_>) -> io::Result<()> {
-    println!(rt; "  The whole processor is {} shares.", draft.scale.0)?;
-    println!(rt; "  High tasks share a budget of {} shares.", draft.total.0)?;
+    println!(rt; "  The whole processor is {} shares.", draft.scale)?;
+    println!(rt; "  High tasks share a budget of {} shares.", draft.total)?;
     println!(rt;
         "  A virtual deadline is {}/{} of the period.",
         draft.factor.p, draft.factor.q
@@ -31,8 +31,8 @@ fn print_table(rt: &HostRuntime, draft: &Draft<'_>) -> io::Result<()> {
 }
 
 fn print_task(rt: &HostRuntime, number: usize, task: &Task) -> io::Result<()> {
-    let period = task.period.0;
-    let worst = task.worst.0;
+    let period = task.period;
+    let worst = task.worst;
     match task.criticality {
         Criticality::High => println!(rt;
             "  Task {number} is high: at most one job in {period} ticks, of at most {worst} ticks."
@@ -40,7 +40,7 @@ fn print_task(rt: &HostRuntime, number: usize, task: &Task) -> io::Result<()> {
         Criticality::Low { assured } => {
             println!(rt;
                 "  Task {number} is low: at most one job in {period} ticks, of at most {worst} ticks, {} of them assured.",
-                assured.0
+                assured
             )
         },
     }
@@ -50,7 +50,7 @@ fn print_figures(rt: &HostRuntime, draft: &Draft<'_>) -> io::Result<()> {
     match figures(draft.scale, draft.tasks) {
         Ok(figures) => println!(rt;
             "  Shares needed: G = {} for the assured parts of low tasks, S = {} for the rest of their work, K = {} for high tasks at their worst.",
-            figures.assured.0, figures.optional.0, figures.high.0
+            figures.assured, figures.optional, figures.high
         ),
         Err(refusal) => println!(rt;
             "  Shares needed: not known, because of refusal {}.",
@@ -81,8 +81,8 @@ fn print_tests(rt: &HostRuntime, draft: &Draft<'_>) -> io::Result<()> {
 }
 
 fn print_test(rt: &HostRuntime, name: &str, test: Comparison) -> io::Result<()> {
-    let demand = test.demand.0;
-    let supply = test.supply.0;
+    let demand = test.demand;
+    let supply = test.supply;
     if test.passes() {
         println!(rt;
             "  {name}: the tasks ask for {demand} and the processor has {supply}. It passes."
@@ -111,7 +111,7 @@ fn print_budgets(rt: &HostRuntime, table: &Table) -> io::Result<()> {
         if table.level(task) == Some(Level::High) {
             println!(rt;
                 "  At rest the shared budget of task {task} is {} ticks.",
-                rule.budget(task).0
+                rule.budget(task)
             )?;
         }
     }

@@ -61,7 +61,7 @@ impl fmt::Display for TableRefusal {
             TableRefusal::Scale(scale) => write!(
                 f,
                 "The scale is {}, and must be 1 to 1000000 shares.",
-                scale.0
+                scale
             ),
             TableRefusal::Factor(factor) => write!(
                 f,
@@ -71,32 +71,32 @@ impl fmt::Display for TableRefusal {
             TableRefusal::Total(total) => write!(
                 f,
                 "The total is {}, and must be 0 to 1000000 shares.",
-                total.0
+                total
             ),
             TableRefusal::Period(_, task) => write!(
                 f,
                 "Its period is {} ticks, and must be 1 to 100000 and divide the scale.",
-                task.period.0
+                task.period
             ),
             TableRefusal::VirtualDeadline(_, task) => write!(
                 f,
                 "Its virtual deadline, the factor times {} ticks, is not a whole number of ticks.",
-                task.period.0
+                task.period
             ),
             TableRefusal::Service(_, task) => write!(
                 f,
                 "Its worst is {} ticks, and must be 1 to its period, with an assured part of at most that.",
-                task.worst.0
+                task.worst
             ),
             TableRefusal::LowTest(test) => write!(
                 f,
                 "It fails the low test: the tasks ask for {} and the processor has {}.",
-                test.demand.0, test.supply.0
+                test.demand, test.supply
             ),
             TableRefusal::HighTest(test) => write!(
                 f,
                 "It fails the high test: the tasks ask for {} and the processor has {}.",
-                test.demand.0, test.supply.0
+                test.demand, test.supply
             ),
         }
     }
