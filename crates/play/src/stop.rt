@@ -7,7 +7,7 @@ use budget::refusal::{CeilingRefusal, FixedRefusal};
 use output::fault::{Fault, ReaderRefusal};
 use tasks::refusal::TableRefusal;
 
-// Why a line is not carried out.
+// Why a line is not carried out. The reader lets no line through that is out of place; a course tells so all the same, since its steps have no condition.
 #[derive(Clone, Copy)]
 pub(crate) enum Stop {
     OutOfPlace,
