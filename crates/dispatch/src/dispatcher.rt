@@ -6,8 +6,8 @@ use budget::rule::Rule;
 use order::tie_order::TieOrder;
 use table::table::Table;
 
-// Clauses name its parts: a model could not cite the meaning of a rule that is a type parameter.
 // A dispatcher over a copy of its table, with a rule of its own and a borrowed order.
+// Clauses name its parts: a model could not cite the meaning of a rule that is a type parameter. They say of each call that table, order and policy stay, which is a fact of two values, so no type holds it.
 #[derive(Drop)]
 pub struct Dispatcher<'o, R: Rule, O: TieOrder> {
     pub(crate) table: Table,

@@ -47,7 +47,7 @@ impl Digits {
     }
 }
 
-// Writes a number in base ten at a place, and answers the place behind it. Where it does not fit, the answer is none and nothing is written.
+// Writes a number in base ten at a place, and answers the place behind it. Where it does not fit, the answer is none and nothing is written. Buffer and place are its caller's, so they are no struct here.
 pub fn write_number(n: u64, out: &mut [u8], at: usize) -> Option<usize>
     ensures behind { result ≡ behind_if at (decimal n) out.old }
     ensures over { out.new ≡ over_if at (decimal n) out.old }

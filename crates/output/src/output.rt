@@ -65,7 +65,7 @@ impl Layer {
     }
 }
 
-// The letters of a mode and of an ending are functions, since their types stand in another crate.
+// The letters of a mode and of an ending are functions, since their types stand in another crate; `u8::from` would not say what the byte is.
 
 fn mode_letter(mode: Mode) -> u8
     ensures { result ≡ mode_letter mode }

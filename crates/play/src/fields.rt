@@ -8,7 +8,7 @@ use scenario::fields::Fields;
 use scenario::number::number;
 use tasks::units::Ticks;
 
-// The value of a field; the reader lets only numbers through.
+// The value of a field; the reader lets only numbers through. A line hands its fields on as the text that they are, so the value is read here.
 pub(crate) fn amount(field: &[u8]) -> u32
     ensures { result ≡ amount field.now }
 {
