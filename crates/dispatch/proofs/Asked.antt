@@ -75,8 +75,8 @@ module _ (m : ℕ) where
 
   lowest_found : m < 2 ^ 32 → m ≢ 0 → Some (count_trailing_zeros 32 m + 1) ≡ lowest_task (bit m)
   lowest_found word ne =
-      let low = lowest_set m word ne in
-      let before : first_below k named ≡ None = first_below_all k named (λ i h. ap (λ b. unless (not b) (i + 1)) (lowest_none m i word ne h)) in
+      let low = lowest_set 32 m word ne in
+      let before : first_below k named ≡ None = first_below_all k named (λ i h. ap (λ b. unless (not b) (i + 1)) (lowest_none 32 m i h)) in
       let here : named k ≡ Some (k + 1) = ap (λ b. unless (not b) (k + 1)) low.0 in
       sym (first_below_stays 32 (k + 1) named (k + 1) (omega (arith, low.1)) (first_below_more k named ∙ ap (λ o. or_else o (named k)) before ∙ here))
 

@@ -38,5 +38,5 @@ bit_without_others m o k hm ho = bit_of_and m (4294967295 - o) k ∙ by_width
     by_width : (bit m k && bit (4294967295 - o) k) ≡ (bit m k && not (bit o k))
     by_width = elim (dec_le 32 k) [
       | yes a ↦ rw (bit_above 32 m k hm a) refl
-      | no a ↦ let b : k < 32 = omega arith in ap (λ x. bit m k && x) (bit_not o k ho b)
+      | no a ↦ let b : k < 32 = omega arith in ap (λ x. bit m k && x) (bit_not 32 o k ho b)
     ]

@@ -87,7 +87,7 @@ none_pending_is mask jobs agrees e = none_pending_true (seat jobs) (λ i l h. by
 
 pub some_pending_is : (mask : ℕ) (jobs : List (Option Job)) → mask < 2 ^ 32 → Agrees mask jobs → mask ≢ 0 → none_pending (seat jobs) ≡ false
 some_pending_is mask jobs word agrees ne =
-    let low = lowest_set mask word ne in
+    let low = lowest_set 32 mask word ne in
     let s = some_of (get_or jobs (count_trailing_zeros 32 mask) None) (sym (agrees (count_trailing_zeros 32 mask)) ∙ low.0) in
     none_pending_false (seat jobs) (suc (count_trailing_zeros 32 mask)) s.0 (omega arith) (omega (arith, low.1)) s.1
 

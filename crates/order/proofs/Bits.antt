@@ -1,21 +1,21 @@
 -- Laws of `bit`.
-use Rattle.std.proofs.Common.{◌≡◌, ℕ, zero, suc, ◌+◌, ◌-◌, ◌/◌, ◌%◌, ◌^◌, ◌<◌, ◌≤◌, Bool, true, false, cond, not, ◌&&◌, ◌||◌, eqb, ◌≢◌, sym, refl, ap, ◌∙◌, mod-lt, pow-suc, w32, min, max, arith}
+use Rattle.std.proofs.Common.{◌≡◌, ℕ, zero, suc, ◌+◌, ◌-◌, ◌/◌, ◌%◌, ◌^◌, ◌<◌, ◌≤◌, Bool, true, false, cond, not, ◌&&◌, ◌||◌, eqb, ◌≢◌, sym, refl, ap, ◌∙◌, mod-lt, pow-suc, min, max, arith}
 use native.Mathlib.Decide.{dec_le, ℕ_discrete}
 use lib.Bits.{bit_and, bit_or}
 use lib.Count.{count_trailing_zeros, under, ones, ones_step, ones-le}
 use Rattle.std.specs.Int.{bit_at}
 use Rattle.std.proofs.lemmas.Nat.{pow_pos, pow_below}
-use Rattle.std.proofs.lemmas.Nat.Bits.{bit_at_lowest, bit_at-suc, bit_at-zero, bit_at-lt, bit_at_above, bit_at_and, bit_at_or, bit_at_not, bit_at-pow_same, bit_at-pow_other, bit_at-trailing_zeros, same_from_bits_below}
+use Rattle.std.proofs.lemmas.Nat.Bits.{bit_at_lowest, bit_at-suc, bit_at-zero, bit_at-lt, bit_at_above, bit_at_and, bit_at_or, bit_at-pow_same, bit_at-pow_other, same_from_bits_below}
 use Rattle.std.proofs.lemmas.Bool.{ne_eqb, eq-eqb}
 use Rattle.std.proofs.lemmas.Bool.Decides.{nat_tests}
 use Rattle.table.specs.Sums.{sum}
-use Rattle.order.specs.Bits.{bit, count, lowest}
+use Rattle.order.specs.Bits.{bit, count}
 
-bit_first : (m : ℕ) → bit m 0 ≡ eqb (m % 2) 1
+pub bit_first : (m : ℕ) → bit m 0 ≡ eqb (m % 2) 1
 unfolding bit
 bit_first m = ap (λ x. eqb x 1) (bit_at_lowest m)
 
-bit_half : (m j : ℕ) → bit m (suc j) ≡ bit (m / 2) j
+pub bit_half : (m j : ℕ) → bit m (suc j) ≡ bit (m / 2) j
 unfolding bit
 bit_half m j = ap (λ x. eqb x 1) (bit_at-suc m j)
 
@@ -35,7 +35,7 @@ bit_of_and a b k = ap (λ x. eqb x 1) (bit_at_and a b k) ∙ by (bit_at a k) (bi
     by : (x y : ℕ) → x < 2 → y < 2 → eqb (min x y) 1 ≡ (eqb x 1 && eqb y 1)
     by x y h l = grind (arith, nat_tests)
 
-bit_of_or : (a b k : ℕ) → bit (bit_or a b) k ≡ (bit a k || bit b k)
+pub bit_of_or : (a b k : ℕ) → bit (bit_or a b) k ≡ (bit a k || bit b k)
 unfolding bit
 bit_of_or a b k = ap (λ x. eqb x 1) (bit_at_or a b k) ∙ by (bit_at a k) (bit_at b k) (bit_at-lt a k) (bit_at-lt b k)
   where
@@ -43,29 +43,35 @@ bit_of_or a b k = ap (λ x. eqb x 1) (bit_at_or a b k) ∙ by (bit_at a k) (bit_
     by x y h l = grind (arith, nat_tests)
 
 -- a bit alone
-bit_power : (s k : ℕ) → bit (2 ^ s) k ≡ eqb k s
+pub bit_power : (s k : ℕ) → bit (2 ^ s) k ≡ eqb k s
 unfolding bit
 bit_power s k = elim (ℕ_discrete k s) [
   | yes e ↦ rw (eq-eqb k s e, e) (ap (λ x. eqb x 1) (bit_at-pow_same s))
   | no ne ↦ rw (ne_eqb k s ne) (ap (λ x. eqb x 1) (bit_at-pow_other s k ne))
 ]
 
--- the other bits of a word
-pub bit_not : (m k : ℕ) → m < 2 ^ 32 → k < 32 → bit (2 ^ 32 - 1 - m) k ≡ not (bit m k)
-unfolding bit
-bit_not m k h l = ap (λ x. eqb x 1) (bit_at_not w32 m k h l) ∙ by (bit_at m k) (bit_at-lt m k)
+-- the other bits of a word of w
+pub bit_not : (w m k : ℕ) → m < 2 ^ w → k < w → bit (2 ^ w - 1 - m) k ≡ not (bit m k)
+bit_not zero m k h l = absurd (omega (arith, l))
+bit_not (suc w) m zero h l =
+    bit_first (2 ^ suc w - 1 - m) ∙ flip (m % 2) (mod-lt m (omega arith)) (omega (arith, pow-suc 2 w, h)) ∙ ap not (sym (bit_first m))
   where
-    by : (x : ℕ) → x < 2 → eqb (1 - x) 1 ≡ not (eqb x 1)
-    by x h = grind (arith, nat_tests)
+    flip : (d : ℕ) → d < 2 → (2 ^ suc w - 1 - m) % 2 ≡ 1 - d → eqb ((2 ^ suc w - 1 - m) % 2) 1 ≡ not (eqb d 1)
+    flip zero l e = ap (λ x. eqb x 1) e
+    flip (suc zero) l e = ap (λ x. eqb x 1) e
+    flip (suc (suc d)) l e = absurd (omega arith)
+bit_not (suc w) m (suc k) h l =
+    let e : (2 ^ suc w - 1 - m) / 2 ≡ 2 ^ w - 1 - m / 2 = omega (arith, pow-suc 2 w, h) in
+    bit_half (2 ^ suc w - 1 - m) k ∙ ap (λ x. bit x k) e ∙ bit_not w (m / 2) k (omega (arith, pow-suc 2 w, h)) (omega (arith, l)) ∙ ap not (sym (bit_half m k))
 
--- a bit set, and a bit of a word cleared
+-- a bit set, and a bit of a word of w cleared
 pub bit_with : (m s k : ℕ) → bit (bit_or m (2 ^ s)) k ≡ (bit m k || eqb k s)
 bit_with m s k = bit_of_or m (2 ^ s) k ∙ ap (λ b. bit m k || b) (bit_power s k)
 
-pub bit_without : (m s k : ℕ) → m < 2 ^ 32 → s < 32 → bit (bit_and m (2 ^ 32 - 1 - 2 ^ s)) k ≡ (bit m k && not (eqb k s))
-bit_without m s k h l = bit_of_and m (2 ^ 32 - 1 - 2 ^ s) k ∙ elim (dec_le 32 k) [
-  | yes a ↦ rw (bit_above 32 m k h a)
-  | no a ↦ rw (bit_not (2 ^ s) k (pow_below s 32 l) (omega arith), bit_power s k)
+pub bit_without : (w m s k : ℕ) → m < 2 ^ w → s < w → bit (bit_and m (2 ^ w - 1 - 2 ^ s)) k ≡ (bit m k && not (eqb k s))
+bit_without w m s k h l = bit_of_and m (2 ^ w - 1 - 2 ^ s) k ∙ elim (dec_le w k) [
+  | yes a ↦ rw (bit_above w m k h a)
+  | no a ↦ rw (bit_not w (2 ^ s) k (pow_below s w l) (omega arith), bit_power s k)
 ]
 
 -- a word of w has no bit at or above w to clear
@@ -91,14 +97,33 @@ pub bits_none : (w m : ℕ) → m < 2 ^ w → ((k : ℕ) → k < w → bit m k �
 bits_none w m h f = bits_same w m 0 h (pow_pos w) (λ k l. f k l ∙ sym (bit_none k))
 
 -- the lowest bit that is set
-pub lowest_set : (m : ℕ) → m < 2 ^ 32 → m ≢ 0 → (bit m (lowest m) ≡ true) × (lowest m < 32)
-unfolding bit
-lowest_set m h ne = let low = bit_at-trailing_zeros w32 m (omega arith) h in (ap (λ x. eqb x 1) low.1, low.0)
+pub lowest_set : (w m : ℕ) → m < 2 ^ w → m ≢ 0 → (bit m (count_trailing_zeros w m) ≡ true) × (count_trailing_zeros w m < w)
+unfolding count_trailing_zeros
+lowest_set zero m h ne = absurd (ne (omega (arith, h)))
+lowest_set (suc w) m h ne = by_digit (m % 2) refl (mod-lt m (omega arith)) (lowest_set w (m / 2) (omega (arith, pow-suc 2 w, h)))
+  where
+    by_digit : (d : ℕ) → m % 2 ≡ d → d < 2 → (m / 2 ≢ 0 → (bit (m / 2) (count_trailing_zeros w (m / 2)) ≡ true) × (count_trailing_zeros w (m / 2) < w))
+        → (bit m (under d (count_trailing_zeros w (m / 2))) ≡ true) × (under d (count_trailing_zeros w (m / 2)) < suc w)
+    by_digit zero e l f =
+        let low = f (λ z. ne (omega (arith, e, z))) in
+        (bit_half m (count_trailing_zeros w (m / 2)) ∙ low.0, omega (arith, low.1))
+    by_digit (suc zero) e l f = (bit_first m ∙ ap (λ x. eqb x 1) e, omega arith)
+    by_digit (suc (suc d)) e l f = absurd (omega (arith, l))
 
 -- no bit below it is set
-pub lowest_none : (m k : ℕ) → m < 2 ^ 32 → m ≢ 0 → k < lowest m → bit m k ≡ false
-unfolding bit
-lowest_none m k h ne l = let low = bit_at-trailing_zeros w32 m (omega arith) h in ap (λ x. eqb x 1) (low.2 k l)
+pub lowest_none : (w m k : ℕ) → k < count_trailing_zeros w m → bit m k ≡ false
+unfolding count_trailing_zeros
+lowest_none zero m k h = absurd (omega (arith, h))
+lowest_none (suc w) m zero h = by_digit (m % 2) refl h
+  where
+    by_digit : (d : ℕ) → m % 2 ≡ d → 0 < under d (count_trailing_zeros w (m / 2)) → bit m 0 ≡ false
+    by_digit zero e l = bit_first m ∙ ap (λ x. eqb x 1) e
+    by_digit (suc d) e l = absurd (omega (arith, l))
+lowest_none (suc w) m (suc k) h = bit_half m k ∙ lowest_none w (m / 2) k (by_digit (m % 2) h)
+  where
+    by_digit : (d : ℕ) → suc k < under d (count_trailing_zeros w (m / 2)) → k < count_trailing_zeros w (m / 2)
+    by_digit zero l = omega (arith, l)
+    by_digit (suc d) l = absurd (omega (arith, l))
 
 eqb_suc : (a b : ℕ) → eqb (suc a) (suc b) ≡ eqb a b
 eqb_suc a b = grind (arith, nat_tests)

@@ -89,5 +89,5 @@ slots_none m e = rw e (filter_none (bit 0) 0 32 bit_none)
 pub slots_more : (m rest : ℕ) → m < 2 ^ 32 → m ≢ 0 → ((k : ℕ) → bit rest k ≡ (bit m k && not (eqb k (lowest m)))) → slots_of m ≡ lowest m ∷ slots_of rest
 unfolding slots_of
 slots_more m rest h ne left =
-    let low = lowest_set m h ne in
-    first_range (bit m) (bit rest) 0 32 (lowest m) (omega arith) (omega (arith, low.1)) low.0 (λ j l. lowest_none m j h ne l) left
+    let low = lowest_set 32 m h ne in
+    first_range (bit m) (bit rest) 0 32 (lowest m) (omega arith) (omega (arith, low.1)) low.0 (λ j l. lowest_none 32 m j l) left
