@@ -1,11 +1,11 @@
--- Laws of `Chosen`: one slot more, one answer only, and `choice_below` finds it.
-use Rattle.std.proofs.Common.{◌≡◌, ℕ, zero, suc, ◌≤◌, Bool, true, false, cond, not, ◌||◌, eqb, ◌≢◌, Some, None, Option, sym, refl, ap, ◌∙◌, arith}
-use native.Mathlib.Decide.{ℕ_discrete}
-use Rattle.std.proofs.lemmas.Bool.{eq-eqb, ne_eqb}
+-- Laws of `Chosen`: one slot more, one answer only, and `first_choice` finds it.
+use Rattle.std.proofs.Common.{◌≡◌, ℕ, zero, suc, ◌<◌, ◌≤◌, Bool, true, false, cond, not, ◌||◌, eqb, ◌≢◌, Some, None, Option, sym, refl, ap, ◌∙◌, arith}
+use native.Mathlib.Decide.{dec_le, ℕ_discrete}
+use Rattle.std.proofs.lemmas.Bool.{eq-eqb, ne_eqb, lt-ltb, le-ltb}
 use Rattle.std.proofs.lemmas.Bool.Decides.{nat_tests}
 use Rattle.order.specs.declared.candidate.Candidate.{Candidate}
 use Rattle.order.specs.Orders.{Ahead, TieLaws}
-use Rattle.order.specs.Choice.{Numbered, First, Chosen, below, leader, choice_below}
+use Rattle.order.specs.Choice.{Numbered, First, Chosen, below, leader, choice_below, first_choice}
 
 -- only what is offered matters
 pub chosen_same : (ahead : Ahead) (at : ℕ → Candidate) (p q : ℕ → Bool) (r : Option ℕ) → ((k : ℕ) → q k ≡ p k) → Chosen ahead at p r → Chosen ahead at q r
@@ -84,3 +84,59 @@ module _ (ahead : Ahead) (at : ℕ → Candidate) (laws : TieLaws ahead) where
           → Chosen ahead at (below (suc n) p) (cond t (Some (leader ahead at (choice_below n ahead at p) n)) (choice_below n ahead at p))
       by_offered true e f = chosen_more (below n p) (below (suc n) p) n (choice_below n ahead at p) (λ k o. numbered k (grind (arith, nat_tests))) (grind (arith, nat_tests)) (λ j. elim (ℕ_discrete j n) [ yes z ↦ rw (z, e) (grind (arith, nat_tests)) | no ne ↦ grind (arith, nat_tests) ]) f
       by_offered false e f = chosen_same ahead at (below n p) (below (suc n) p) (choice_below n ahead at p) (λ j. elim (ℕ_discrete j n) [ yes z ↦ rw (z, e) (grind (arith, nat_tests)) | no ne ↦ grind (arith, nat_tests) ]) f
+
+  -- what is chosen is what `first_choice` finds
+  pub chosen_computed : (p : ℕ → Bool) (r : Option ℕ) → ((k : ℕ) → 32 ≤ k → p k ≡ false) → Numbered at p → Chosen ahead at p r → r ≡ first_choice ahead at p
+  chosen_computed p r high numbered f =
+      let few : (k : ℕ) → below 32 p k ≡ p k = λ k. elim (dec_le 32 k) [ yes h ↦ rw (high k h, le-ltb k 32 h) | no h ↦ rw (lt-ltb k 32 (omega arith)) ] in
+      let all : Numbered at (below 32 p) = λ k o. numbered k (sym (few k) ∙ o) in
+      chosen_once (below 32 p) all r (first_choice ahead at p) (chosen_same ahead at p (below 32 p) r few f) (choice_chosen p 32 32 (omega arith) all)
+
+  -- the first one's deadline is the earliest
+  pub first_earliest : (p : ℕ → Bool) (k : ℕ) → Numbered at p → First ahead at p k → (j : ℕ) → p j ≡ true → (at k).deadline.0 ≤ (at j).deadline.0
+  first_earliest p k numbered f j o = elim (ℕ_discrete j k) [
+    | yes e ↦ rw e (omega arith)
+    | no ne ↦ elim (dec_le (at k).deadline.0 (at j).deadline.0) [
+      | yes h ↦ h
+      | no h ↦
+          let jk : ahead (at j) (at k) ≡ true = laws.refines_deadlines (at j) (at k) (apart p numbered j k o f.is_offered ne) (omega arith) in
+          let kj : ahead (at k) (at j) ≡ true = f.leads j o ne in
+          let way : ahead (at k) (at j) ≡ not (ahead (at j) (at k)) = laws.one_way (at j) (at k) (apart p numbered j k o f.is_offered ne) in
+          let z : not true ≡ true = cc in
+          let c : ◌≡◌ {A = ℕ} 0 1 = cc in absurd (omega arith)
+    ]
+  ]
+
+-- what `choice_below` finds is offered and below n
+pub choice_within : (n : ℕ) (ahead : Ahead) (at : ℕ → Candidate) (p : ℕ → Bool) (b : ℕ) → choice_below n ahead at p ≡ Some b → (b < n) × (p b ≡ true)
+unfolding choice_below
+choice_within zero ahead at p b e = let z : ◌≡◌ {A = ℕ} 0 1 = cc in absurd (omega arith)
+choice_within (suc n) ahead at p b e = by_offered (p n) refl (choice_below n ahead at p) (choice_within n ahead at p) e
+  where
+    higher : (b : ℕ) → (b < n) × (p b ≡ true) → (b < suc n) × (p b ≡ true)
+    higher b w = (omega (arith, w.0), w.1)
+
+    by_ahead : (c : ℕ) (t : Bool) → p n ≡ true → (c < n) × (p c ≡ true) → cond t n c ≡ b → (b < suc n) × (p b ≡ true)
+    by_ahead c true o w e = rw (← e) (omega arith, o)
+    by_ahead c false o w e = rw e at (higher c w)
+
+    by_offered : (t : Bool) → p n ≡ t → (c : Option ℕ) → ((b : ℕ) → c ≡ Some b → (b < n) × (p b ≡ true))
+        → cond t (Some (leader ahead at c n)) c ≡ Some b → (b < suc n) × (p b ≡ true)
+    by_offered true o None f e = let i : n ≡ b = cc in rw (← i) (omega arith, o)
+    by_offered true o (Some c) f e = let i : cond (ahead (at n) (at c)) n c ≡ b = cc in by_ahead c (ahead (at n) (at c)) o (f c refl) i
+    by_offered false o c f e = higher b (f b e)
+
+-- it depends on the offered slots below n only
+pub choice_same : (n : ℕ) (ahead : Ahead) (at to : ℕ → Candidate) (p q : ℕ → Bool) → ((k : ℕ) → k < n → q k ≡ p k) → ((k : ℕ) → k < n → p k ≡ true → to k ≡ at k)
+    → choice_below n ahead to q ≡ choice_below n ahead at p
+unfolding choice_below
+choice_same zero ahead at to p q e f = refl
+choice_same (suc n) ahead at to p q e f =
+    rw (e n (omega arith), choice_same n ahead at to p q (λ k h. e k (omega (arith, h))) (λ k h. f k (omega (arith, h))))
+    (by_offered (p n) refl (choice_below n ahead at p) (choice_within n ahead at p))
+  where
+    by_offered : (t : Bool) → p n ≡ t → (c : Option ℕ) → ((b : ℕ) → c ≡ Some b → (b < n) × (p b ≡ true))
+        → cond t (Some (leader ahead to c n)) c ≡ cond t (Some (leader ahead at c n)) c
+    by_offered true o None w = refl
+    by_offered true o (Some c) w = rw (f n (omega arith) o, f c (omega (arith, (w c refl).0)) (w c refl).1)
+    by_offered false o c w = refl
