@@ -2,13 +2,14 @@
 use Rattle.std.proofs.Common.{◌≡◌, ℕ, zero, suc, ◌+◌, ◌^◌, ◌<◌, Bool, true, false, cond, not, eqb, List, [], ◌∷◌, is_some, Some, None, Option, sym, refl, ap, ◌∙◌, add-zero, add-one, arith}
 use Rattle.std.specs.List.{filter, fold, range_with_len}
 use native.Mathlib.Decide.{dec_le, ℕ_discrete}
+use Rattle.std.proofs.lemmas.Nat.{pow_pos}
 use Rattle.std.proofs.lemmas.Bool.{ne_eqb, lt-ltb, le-ltb}
 use Rattle.order.specs.declared.candidate.Candidate.{Candidate}
 use Rattle.order.specs.Orders.{Ahead, TieLaws}
 use Rattle.order.specs.Bits.{bit, slots_of}
 use Rattle.order.specs.Choice.{Numbered, Chosen, below, leader, choice_below, first_choice, ChosenFrom}
-use Rattle.order.proofs.Bits.{bit_above}
-use Rattle.order.proofs.Listed.{has, has_slot, slot_below, slots_none, no_slots}
+use Rattle.order.proofs.Bits.{bit_none, bit_above}
+use Rattle.order.proofs.Listed.{has, has_slot, slot_below, slots_none}
 use Rattle.order.proofs.Chosen.{chosen_same, chosen_once, choice_chosen}
 
 -- the first of some slots and the one chosen before them
@@ -78,13 +79,16 @@ module _ (ahead : Ahead) (at : ℕ → Candidate) (laws : TieLaws ahead) (mask :
       let chosen : Chosen ahead at (bit mask) r = rw is (chosen_same ahead at (below 32 (bit mask)) (bit mask) _ (λ k. sym (few k)) (choice_chosen ahead at laws (bit mask) 32 32 (omega arith) all)) in
       record { chosen = chosen; only = λ s g. chosen_once ahead at laws (bit mask) numbered s r g chosen; some = some; computed = is }
 
-  -- there is no slot
-  pub none_offered : slots_of mask ≡ [] → ChosenFrom ahead at mask None
-  none_offered e =
-      let none : (k : ℕ) → bit mask k ≡ false = λ k. sym (has_slot mask k word) ∙ ap (has k) e in
-      from None (sym (ap (pick ahead at None) e) ∙ pick_all ahead at mask) (rw (no_slots mask word e)) (λ k o. let f = none k in let z : ◌≡◌ {A = ℕ} 0 1 = cc in absurd (omega arith))
-
   -- nothing is left
   pub looked_all : (best k : ℕ) (xs left : List ℕ) (leader : Candidate) → slots_of mask ≡ k ∷ xs → left ≡ [] → Looked ahead at mask left best leader → ChosenFrom ahead at mask (Some best)
   looked_all best k xs left leader some end l =
       from (Some best) (sym (ap (pick ahead at (Some best)) end) ∙ l.answer) (sym (ap not (ne_eqb mask 0 (λ z. let none = slots_none mask z in let c : ◌≡◌ {A = ℕ} 0 1 = cc in omega arith)))) (λ j o. l.numbered j o (ap (has j) end))
+
+module _ (ahead : Ahead) (at : ℕ → Candidate) (laws : TieLaws ahead) where
+  -- there is no slot
+  pub none_offered : (mask : ℕ) → mask ≡ 0 → ChosenFrom ahead at mask None
+  none_offered mask z =
+      let word : mask < 2 ^ 32 = rw z (pow_pos 32) in
+      let e : slots_of mask ≡ [] = slots_none mask z in
+      let none : (k : ℕ) → bit mask k ≡ false = λ k. rw z (bit_none k) in
+      from ahead at laws mask word None (sym (ap (pick ahead at None) e) ∙ pick_all ahead at mask) (rw z) (λ k o. let f = none k in let z : ◌≡◌ {A = ℕ} 0 1 = cc in absurd (omega arith))

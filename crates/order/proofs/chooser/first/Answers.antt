@@ -3,6 +3,7 @@ use Rattle.order.specs.declared.candidate.Candidate.{Candidate}
 use Rattle.order.specs.Orders.{TieLaws}
 use Rattle.order.specs.Bits.{slots_of}
 use Rattle.order.specs.Slots.{slots_left}
+use Rattle.order.proofs.Listed.{no_slots}
 use Rattle.order.proofs.Looked.{none_offered, looked_first, looked_more, looked_all}
 use Rattle.order.proofs.chooser.first.Given as given
 use Rattle.order.proofs.chooser.first.Goals as goal
@@ -16,7 +17,7 @@ numbered g x slot made is low = rw is (g.met.C.Candidates.numbered x slot low)
 pub returns-in_err-best : goal.returns-in_err-best
 returns-in_err-best g c =
     let none : slots_of c.args.mask ≡ [] = sym c.of-slots.ensures ∙ c.in_err-best.ensures.steps.0 in
-    rw c.from_residual.ensures (none_offered (g.O.TieOrder.ahead c.args.order.now) (g.C.Candidates.at c.args.candidates.now) (laws g c.args.order.now) c.args.mask (omega arith) none)
+    rw c.from_residual.ensures (none_offered (g.O.TieOrder.ahead c.args.order.now) (g.C.Candidates.at c.args.candidates.now) (laws g c.args.order.now) c.args.mask (no_slots c.args.mask (omega arith) none))
 
 pub loop-slot-init : goal.loop-slot-init
 loop-slot-init g c =
