@@ -38,7 +38,7 @@ module _ (P : Table) (ok : Accepted P) (s : State) (f : Facts P s) (i r u : ℕ)
 
       sums : sum P.n (λ j. bump led.x i j + led.y j) ≡ sum P.n (λ j. led.x j + led.y j) + 1
       sums = sum_bump P.n (λ j. led.x j + led.y j) (λ j. bump led.x i j + led.y j) i l
-          (omega (arith, bump_own led.x i)) (λ j ne. omega (arith, bump_other led.x i j ne))
+          (omega (arith, bump_own led.x i)) (λ j k ne. omega (arith, bump_other led.x i j ne))
 
       own : HRow P.q P.p (P.T i) (cap P s i) (assured P i) led.σ led.a led.δ (live r (u + 1)) (s.next i) (led.x i + 1)
       own =
@@ -81,7 +81,7 @@ module _ (P : Table) (ok : Accepted P) (s : State) (f : Facts P s) (i r u : ℕ)
 
       sums : sum P.n (λ j. led.x j + bump led.y i j) ≡ S + 1
       sums = sum_bump P.n (λ j. led.x j + led.y j) (λ j. led.x j + bump led.y i j) i l
-          (omega (arith, bump_own led.y i)) (λ j ne. omega (arith, bump_other led.y i j ne))
+          (omega (arith, bump_own led.y i)) (λ j k ne. omega (arith, bump_other led.y i j ne))
 
       own : Row P.q (P.T i) (past P i) (P.q * P.T i) (P.q * s.clock) led.σ (λ v. v - assured P i) (live r (u + 1)) (s.next i) (led.y i + 1)
       own =

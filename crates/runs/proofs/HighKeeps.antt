@@ -97,7 +97,7 @@ module _ (P : Table) (ok : Accepted P) (s s' : State) (i r u : ℕ) (run : HighR
 
       sums : sum P.n (λ j. bump led.x i j + led.y j) ≡ sum P.n (λ j. led.x j + led.y j) + 1
       sums = sum_bump P.n (λ j. led.x j + led.y j) (λ j. bump led.x i j + led.y j) i run.runs.below
-          (omega (arith, bump_own led.x i)) (λ j ne. omega (arith, bump_other led.x i j ne))
+          (omega (arith, bump_own led.x i)) (λ j l ne. omega (arith, bump_other led.x i j ne))
 
       a_own : HRow P.q P.p (P.T i) (cap P s' i) (assured P i) led.σ led.a led.δ (s'.job i) (s'.next i) (bump led.x i i)
       a_own =

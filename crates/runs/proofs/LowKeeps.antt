@@ -156,7 +156,7 @@ module _ (P : Table) (ok : Accepted P) (s s' : State) (i r u : ℕ) (run : LowRu
 
       sums : sum P.n (λ j. bump led.x i j + led.y j) ≡ sum P.n (λ j. led.x j + led.y j) + 1
       sums = sum_bump P.n (λ j. led.x j + led.y j) (λ j. bump led.x i j + led.y j) i run.runs.below
-          (omega (arith, bump_own led.x i)) (λ j ne. omega (arith, bump_other led.x i j ne))
+          (omega (arith, bump_own led.x i)) (λ j l ne. omega (arith, bump_other led.x i j ne))
 
       thr : P.q * r + P.p * P.T i ≤ V
       thr = omega (arith, counts, ap (λ z. P.q * z) (due_early P i r u early), ok.virtual i run.runs.below)
@@ -204,7 +204,7 @@ module _ (P : Table) (ok : Accepted P) (s s' : State) (i r u : ℕ) (run : LowRu
 
       sums : sum P.n (λ j. led.x j + bump led.y i j) ≡ sum P.n (λ j. led.x j + led.y j) + 1
       sums = sum_bump P.n (λ j. led.x j + led.y j) (λ j. led.x j + bump led.y i j) i run.runs.below
-          (omega (arith, bump_own led.y i)) (λ j ne. omega (arith, bump_other led.y i j ne))
+          (omega (arith, bump_own led.y i)) (λ j l ne. omega (arith, bump_other led.y i j ne))
 
       thr : P.q * r + P.q * P.T i ≤ V
       thr = omega (arith, counts, ap (λ z. P.q * z) (due_late P i r u own.short late))

@@ -1,13 +1,24 @@
 -- Sums below n: bounds, equality, one point raised by one.
 use Rattle.std.proofs.Common.{◌≡◌, ℕ, zero, suc, ◌+◌, ◌*◌, ◌<◌, ◌≤◌, cond, eqb, ◌≢◌, refl, arith}
+use native.Mathlib.Decide.{ℕ_discrete}
 use Rattle.std.proofs.lemmas.Bool.{eq-eqb, ne_eqb}
 use Rattle.table.specs.Sums.{sum}
-use Rattle.table.proofs.Sums.{sum_swap}
 pub use Rattle.table.proofs.Sums.{sum_same}
 
 -- one point raised by one
-pub sum_bump : (n : ℕ) (f g : ℕ → ℕ) (i : ℕ) → i < n → g i ≡ f i + 1 → ((j : ℕ) → j ≢ i → g j ≡ f j) → sum n g ≡ sum n f + 1
-sum_bump n f g i l at off = omega (arith, sum_swap n i g f l off)
+pub sum_bump : (n : ℕ) (f g : ℕ → ℕ) (i : ℕ) → i < n → g i ≡ f i + 1 → ((j : ℕ) → j < n → j ≢ i → g j ≡ f j) → sum n g ≡ sum n f + 1
+unfolding sum
+sum_bump zero f g i l at off = omega arith
+sum_bump (suc k) f g i l at off =
+    elim (ℕ_discrete i k) [
+      | yes e ↦
+          let below = sum_same k g f (λ j m. off j (omega arith) (omega arith)) in
+          let here : g k ≡ f k + 1 = rw e at at in
+          omega arith
+      | no ne ↦
+          let below = sum_bump k f g i (omega arith) at (λ j m. off j (omega arith)) in
+          omega (arith, off k (omega arith) (omega arith))
+    ]
 
 -- a bound of the terms by three others is one of the sums
 pub sum_bound : (n P α β γ : ℕ) (m a b c : ℕ → ℕ) → ((i : ℕ) → i < n → P * m i ≤ α * a i + β * b i + γ * c i) → P * sum n m ≤ α * sum n a + β * sum n b + γ * sum n c
