@@ -21,10 +21,13 @@ use Rattle.runs.specs.Laws.{Arrived, Ticked}
 use Rattle.runs.specs.Produced.{Kind, exact, Keeps, Follows, Produced}
 use Rattle.runs.specs.Programs.{DefinedMaking, DefinedArrivals, DefinedTicks, Program, Obeys, asked_meaning, rested_meaning, meaning_by, meaning_after, Standing, answered, play, Played, Total, shared_program, shared_rule, SharedStands}
 use Rattle.runs.proofs.Keeps.{Sane}
-use Rattle.runs.proofs.Ages.{age_bound, produced_sane}
+use Rattle.runs.proofs.Ages.{age_bound, produced_sane, follows_keeps}
 use Rattle.runs.proofs.Choosing.{Seated}
 use Rattle.runs.proofs.Satisfies.{arrival_obeys, tick_obeys}
 use Rattle.runs.proofs.Foreign.{judged_is}
+
+pub produced_keeps : (kind : Kind) (d : Draft) (ahead : Ahead) (log : List Entry) (m : Meaning) (s : State) → Produced kind d ahead log m s → Keeps kind m
+produced_keeps kind d ahead log m s p = follows_keeps p.made.keeps p.course
 
 pub produced_arrival : (kind : Kind) (d : Draft) (ahead : Ahead) (log : List Entry) (m : Meaning) (s s' : State) (i : ℕ) (r : Result (Unit {0}) _) → Produced kind d ahead log m s → Arrived d s i r s' → Produced kind d ahead (Arrive i (Some r) ∷ log) m s'
 produced_arrival kind d ahead log m s s' i r p h = record { first_meaning = p.first_meaning; first_state = p.first_state; made = p.made; course = Follows.arrival {s = s} {s' = s'} i r p.course h }

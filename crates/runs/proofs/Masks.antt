@@ -1,11 +1,20 @@
 -- A mask holds exactly the numbers of its set.
-use Rattle.std.proofs.Common.{◌≡◌, ℕ, zero, suc, ◌-◌, ◌^◌, ◌<◌, ◌≤◌, Bool, true, false, cond, eqb, ◌≢◌, refl, ap, ◌∙◌, arith}
+use Rattle.std.proofs.Common.{◌≡◌, ℕ, zero, suc, ◌+◌, ◌-◌, ◌^◌, ◌<◌, ◌≤◌, Bool, true, false, cond, eqb, ◌≢◌, refl, ap, ◌∙◌, add-one, arith}
 use native.Mathlib.Decide.{ℕ_discrete}
 use lib.Bits.{bit_or}
 use Rattle.std.specs.Int.{bit_at}
 use Rattle.std.proofs.lemmas.Nat.{pow_pos, pow_below, or_lt}
 use Rattle.std.proofs.lemmas.Nat.Bits.{bit_at-lt, bit_at_or, bit_at-pow_same, bit_at-pow_other, bit_at_above}
 use Rattle.runs.specs.Masks.{mask, in_mask}
+
+-- a mask, number by number
+pub mask_none : (set : ℕ → Bool) → mask 0 set ≡ 0
+unfolding mask
+mask_none set = refl
+
+pub mask_more : (k : ℕ) (set : ℕ → Bool) → mask (k + 1) set ≡ cond (set (k + 1)) (bit_or (mask k set) (2 ^ k)) (mask k set)
+unfolding mask
+mask_more k set = rw (add-one k)
 
 mark_own : (m s : ℕ) → bit_at (bit_or m (2 ^ s)) s ≡ 1
 mark_own m s = omega (arith, bit_at_or m (2 ^ s) s, bit_at-pow_same s, bit_at-lt m s)
