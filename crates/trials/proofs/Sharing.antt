@@ -53,3 +53,7 @@ shared_keeps r = record {
 pub judged_own : (b : Bool) (d : Draft) (m : Meaning) → Judged b d m → b ≡ false → OfTable d m
 judged_own true d m j e = let z : ◌≡◌ {A = ℕ} 0 1 = cc in absurd (omega arith)
 judged_own false d m j e = j
+
+pub judged_foreign : (b : Bool) (d : Draft) (m : Meaning) → Judged b d m → b ≡ true → OfTable d m → ⊥
+judged_foreign true d m j e = j
+judged_foreign false d m j e = let z : ◌≡◌ {A = ℕ} 0 1 = cc in absurd (omega arith)
