@@ -1,5 +1,5 @@
 -- A draft is accepted exactly when the plain inequalities hold.
-use Rattle.std.proofs.Common.{◌≡◌, ℕ, ◌+◌, ◌*◌, ◌/◌, ◌%◌, ◌≤◌, ◌∙◌, Bool, true, false, eqb, leb, List, is_some, Some, None, Option, sym, refl, ap, mul_comm, arith}
+use Rattle.std.proofs.Common.{◌≡◌, ℕ, ◌+◌, ◌*◌, ◌/◌, ◌%◌, ◌≤◌, ◌∙◌, Bool, true, false, eqb, leb, List, [], ◌∷◌, is_some, Some, None, Option, sym, refl, ap, mul_comm, arith}
 use mathlib.Core.Path.{fun_ext}
 use native.Mathlib.Nat.{div-add-mod}
 use Rattle.std.proofs.lemmas.Bool.{leb-true, le-leb, eqb-true, eq-eqb, and_parts, and_from}
@@ -7,12 +7,13 @@ use Rattle.std.proofs.lemmas.Option.{none-some}
 use Rattle.tasks.specs.declared.units.Shares.{Shares}
 use Rattle.tasks.specs.declared.task.Task.{Task}
 use Rattle.tasks.specs.declared.task.Factor.{Factor}
+use Rattle.tasks.specs.declared.task.Tests.{Tests}
 use Rattle.tasks.specs.declared.refusal.TableRefusal.{TableRefusal}
-use Rattle.table.specs.Firsts.{or_else, unless}
+use Rattle.table.specs.Firsts.{or_else, first_of, unless}
 use Rattle.table.specs.Tasks.{slot, weight, low_assured}
-use Rattle.table.specs.Verdict.{Draft, drafted, in_range, count_fault, scale_fault, factor_fault, total_fault, period_fault, deadline_fault, service_fault, task_fault, tasks_fault, low_fault, high_fault, tests_of, verdict}
+use Rattle.table.specs.Verdict.{Draft, drafted, in_range, count_fault, scale_fault, factor_fault, total_fault, period_fault, deadline_fault, service_fault, task_fault, tasks_fault, low_fault, high_fault, tests_of, shape_faults, shape_fault, verdict}
 use Rattle.table.specs.Accepted.{Sound, Accepted}
-use Rattle.table.proofs.Firsts.{none_first, none_second, none_both, first_below_at, first_below_all}
+use Rattle.table.proofs.Firsts.{none_first, none_second, none_both, first_below_at, first_below_all, first_of_append}
 
 -- a test passes exactly where there is no refusal
 pub unless_none : {A : Type 0} (b : Bool) (r : A) → unless b r ≡ None → b ≡ true
@@ -116,6 +117,14 @@ accepted d e₀ =
       high_test = leb-true _ _ highed;
     }
 
+-- tasks that pass with a factor pass without one
+pub without_factor : (h : Shares) (f : Factor) (n : ℕ) (task : ℕ → Task) → tasks_fault h (Some f) n task ≡ None → tasks_fault h None n task ≡ None
+without_factor h f n task e =
+    first_below_all n _ (λ k l.
+    let here = first_below_at n _ e k l in
+    none_both (period_fault h (k + 1) (task k)) _ (period_none h (Some f) (k + 1) (task k) here)
+    (none_both (service_fault (k + 1) (task k)) None (service_none h (Some f) (k + 1) (task k) here) refl))
+
 pub sound_none : (h : Shares) (f : Factor) (i : ℕ) (t : Task) → 1 ≤ f.q → Sound h f t → task_fault h (Some f) i t ≡ None
 sound_none h f i t pos s =
     let right : h.0 % t.period.0 ≡ 0 = no_rest h.0 t.period.0 s.divides in
@@ -140,6 +149,12 @@ accepts d a =
     (none_both (tasks_fault d.scale (Some f) n d.task) _ (first_below_all n _ (λ k l. sound_none d.scale f (k + 1) (d.task k) q_low (a.each k l)))
     (none_both (low_fault (tests_of d)) _ (none_unless _ _ (le-leb _ _ a.low_test))
     (none_both (high_fault (tests_of d)) None (none_unless _ _ (le-leb _ _ a.high_test)) refl))))))
+
+-- where 1 to 7 pass, the two tests decide
+pub verdict_after : (d : Draft) (t : Tests) → shape_fault d ≡ None → t ≡ tests_of d → first_of (low_fault t ∷ high_fault t ∷ []) ≡ verdict d
+verdict_after d t e same =
+    let P : Tests → Option TableRefusal = λ t. first_of (low_fault t ∷ high_fault t ∷ []) in
+    ap P same ∙ ap (λ x. or_else x (P (tests_of d))) (sym e) ∙ sym (first_of_append (shape_faults d) (low_fault (tests_of d) ∷ high_fault (tests_of d) ∷ []))
 
 -- drafts of the same parts are the same
 pub same_draft : (h b : Shares) (f : Factor) (n : ℕ) (xs ys : List Task) → ((k : ℕ) → slot xs k ≡ slot ys k) → drafted h b f n xs ≡ drafted h b f n ys

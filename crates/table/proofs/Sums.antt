@@ -1,5 +1,5 @@
 -- Laws of `sum`.
-use Rattle.std.proofs.Common.{◌≡◌, ℕ, zero, suc, ◌+◌, ◌<◌, ◌≤◌, refl, ap, add-one, arith}
+use Rattle.std.proofs.Common.{◌≡◌, ℕ, zero, suc, ◌+◌, ◌*◌, ◌<◌, ◌≤◌, refl, ap, add-one, arith}
 use native.Mathlib.Decide.{ℕ_discrete}
 use Rattle.table.specs.Sums.{sum}
 
@@ -20,6 +20,12 @@ pub sum_same : (n : ℕ) (f g : ℕ → ℕ) → ((k : ℕ) → k < n → f k �
 unfolding sum
 sum_same zero f g e = refl
 sum_same (suc n) f g e = omega (arith, sum_same n f g (λ k l. e k (omega (arith, l))), e n (omega arith))
+
+-- a sum of n terms, each at most b
+pub sum_at_most : (n b : ℕ) (f : ℕ → ℕ) → ((k : ℕ) → k < n → f k ≤ b) → sum n f ≤ n * b
+unfolding sum
+sum_at_most zero b f h = omega arith
+sum_at_most (suc n) b f h = omega (arith, sum_at_most n b f (λ k l. h k (omega (arith, l))), h n (omega arith))
 
 -- a sum of zeros
 pub sum_zeros : (n : ℕ) (f : ℕ → ℕ) → ((k : ℕ) → k < n → f k ≡ 0) → sum n f ≡ 0
