@@ -1,1 +1,3 @@
 pub mod Widths
+pub mod Spelled
+pub mod Pages
