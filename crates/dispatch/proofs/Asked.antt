@@ -1,10 +1,11 @@
 -- What the questions tell, in a state and in its logs.
-use Rattle.std.proofs.Common.{◌≡◌, ℕ, zero, suc, ◌+◌, ◌-◌, ◌^◌, ◌<◌, Bool, true, false, cond, not, ◌&&◌, eqb, ◌≢◌, List, get_or, is_some, Some, None, Option, sym, refl, ap, ◌∙◌, arith}
+use Rattle.std.proofs.Common.{◌≡◌, ℕ, zero, suc, ◌+◌, ◌-◌, ◌^◌, ◌<◌, Bool, true, false, cond, not, ◌&&◌, eqb, ◌≢◌, List, length, get_or, is_some, Some, None, Option, sym, refl, ap, ◌∙◌, arith}
 use mathlib.Core.Path.{fun_ext}
 use lib.Count.{count_trailing_zeros}
 use native.Mathlib.Decide.{ℕ_discrete}
 use Rattle.std.specs.Bool.{then_some}
 use Rattle.std.proofs.lemmas.Bool.{eq-eqb, ne_eqb}
+use Rattle.std.proofs.lemmas.List.{get_or_past}
 use Rattle.std.specs.Option.{option_map}
 use Rattle.tasks.specs.declared.units.Ticks.{Ticks}
 use Rattle.table.specs.Accepted.{Accepted}
@@ -30,6 +31,11 @@ use Rattle.runs.proofs.Ties.{ties_stand}
 use Rattle.dispatch.specs.Cores.{Agrees, masked, drops_at}
 use Rattle.dispatch.specs.Questions.{age_at, plain, is_pending, lowest_task}
 use Rattle.dispatch.proofs.Masks.{mask_is, drops_seat}
+
+-- a number without a slot has no job
+pub seat_beyond : (jobs : List (Option Job)) (i : ℕ) → length jobs ≡ 32 → 32 < i → seat jobs i ≡ None
+seat_beyond jobs zero long h = absurd (omega arith)
+seat_beyond jobs (suc k) long h = get_or_past jobs k None (omega arith)
 
 -- the age
 
@@ -63,7 +69,7 @@ pending_bits pending jobs agrees = fun_ext agrees
 
 -- the lowest task of a mask
 
-lowest_empty : (m : ℕ) → m ≡ 0 → None ≡ lowest_task (bit m)
+pub lowest_empty : (m : ℕ) → m ≡ 0 → None ≡ lowest_task (bit m)
 lowest_empty m e = sym (first_below_all 32 (λ k. unless (not (bit m k)) (k + 1)) (λ k h. ap (λ b. unless (not b) (k + 1)) (ap (λ x. bit x k) e ∙ bit_none k)))
 
 module _ (m : ℕ) where
@@ -73,7 +79,7 @@ module _ (m : ℕ) where
   abbrev named : ℕ → Option ℕ
   named i = unless (not (bit m i)) (i + 1)
 
-  lowest_found : m < 2 ^ 32 → m ≢ 0 → Some (count_trailing_zeros 32 m + 1) ≡ lowest_task (bit m)
+  pub lowest_found : m < 2 ^ 32 → m ≢ 0 → Some (count_trailing_zeros 32 m + 1) ≡ lowest_task (bit m)
   lowest_found word ne =
       let low = lowest_set 32 m word ne in
       let before : first_below k named ≡ None = first_below_all k named (λ i h. ap (λ b. unless (not b) (i + 1)) (lowest_none 32 m i h)) in

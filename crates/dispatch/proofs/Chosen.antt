@@ -22,7 +22,7 @@ some_of None e = let z : ◌≡◌ {A = ℕ} 0 1 = cc in absurd (omega arith)
 some_of (Some a) e = (a, refl)
 
 -- a slot of a mask is below 32
-slot_below : (mask k : ℕ) → mask < 2 ^ 32 → bit mask k ≡ true → k < 32
+pub slot_below : (mask k : ℕ) → mask < 2 ^ 32 → bit mask k ≡ true → k < 32
 slot_below mask k word e = elim (dec_le 32 k) [
   | yes h ↦ let none : bit mask k ≡ false = bit_above 32 mask k word h in let z : ◌≡◌ {A = ℕ} 0 1 = cc in absurd (omega arith)
   | no h ↦ omega arith

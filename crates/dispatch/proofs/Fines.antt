@@ -1,5 +1,6 @@
 -- What holds between calls is kept by each step.
 use Rattle.std.proofs.Common.{◌≡◌, ℕ, zero, suc, ◌+◌, ◌-◌, ◌^◌, ◌<◌, ◌≤◌, Bool, true, false, cond, not, ◌&&◌, eqb, List, length, get_or, set, is_some, Some, None, Option, sym, refl, ap, ◌∙◌, arith, length-set}
+use mathlib.Core.Path.{fun_ext}
 use Rattle.tasks.specs.declared.units.Ticks.{Ticks}
 use Rattle.table.specs.declared.table.Table.{Table}
 use Rattle.table.specs.Verdict.{Draft}
@@ -8,11 +9,14 @@ use Rattle.order.specs.Bits.{bit}
 use Rattle.runs.specs.declared.answer.Job.{Job}
 use Rattle.runs.specs.declared.answer.Ending.{Ending}
 use Rattle.runs.specs.Slots.{seat}
-use Rattle.runs.specs.Ticking.{served}
+use Rattle.runs.specs.States.{known}
+use Rattle.runs.specs.Ticking.{served, kept}
 use Rattle.runs.proofs.Choosing.{Seated}
 use Rattle.dispatch.specs.declared.state.Core.{Core}
 use Rattle.dispatch.specs.Cores.{Fine, Owned, LastBy, drops_at}
 use Rattle.dispatch.specs.Steps.{rest_of, Writes}
+use Rattle.dispatch.proofs.Known.{known_slot}
+use Rattle.dispatch.proofs.Masks.{drops_seat}
 use Rattle.dispatch.proofs.Seats.{seat_set, all_set, agrees_set}
 
 -- a task with a pending job
@@ -20,6 +24,12 @@ use Rattle.dispatch.proofs.Seats.{seat_set, all_set, agrees_set}
 pub seat_slot : (jobs : List (Option Job)) (i : ℕ) (j : Job) → seat jobs i ≡ Some j → (1 ≤ i) × (get_or jobs (i - 1) None ≡ Some j)
 seat_slot jobs zero j e = let z : ◌≡◌ {A = ℕ} 0 1 = cc in absurd (omega arith)
 seat_slot jobs (suc k) j e = let back : suc k - 1 ≡ k = omega arith in (omega arith, ap (λ i. get_or jobs i None) back ∙ e)
+
+pub seat_known : (d : Draft) (jobs : List (Option Job)) → Owned d.count jobs → (i : ℕ) (j : Job) → seat jobs i ≡ Some j → known d i ≡ true
+seat_known d jobs owned i j e =
+    let s = seat_slot jobs i j e in
+    let back : i - 1 + 1 ≡ i = omega (arith, s.0) in
+    rw back at (known_slot d (i - 1) (owned (i - 1) j s.1))
 
 pub seat_below : (t : Table) (jobs : List (Option Job)) → Owned t.count jobs → (i : ℕ) (j : Job) → seat jobs i ≡ Some j → i - 1 < 32
 seat_below t jobs owned i j e = let s = seat_slot jobs i j e in omega (arith, owned (i - 1) j s.1, (table_accepted t).few)
@@ -56,6 +66,13 @@ module _ (d : Draft) (c c' : Core) (dropped : ℕ) (bits : (k : ℕ) → bit dro
       by true (Some j) = refl
       by false None = refl
       by false (Some j) = refl
+
+  pub jobs_switched : seat c'.jobs ≡ kept d (seat c.jobs)
+  jobs_switched = fun_ext (λ i. by i)
+    where
+      by : (i : ℕ) → seat c'.jobs i ≡ kept d (seat c.jobs) i
+      by zero = refl
+      by (suc k) = at k ∙ ap (λ b. cond b None (get_or c.jobs k None)) (bits k ∙ drops_seat d c.jobs k)
 
 -- a served job
 

@@ -1,6 +1,6 @@
 -- Tasks under the numbers that a table knows.
-use Rattle.std.proofs.Common.{◌≡◌, ℕ, ◌-◌, ◌*◌, ◌^◌, ◌≤◌, true, leb, mul-le-mul, div-le_self, arith}
-use Rattle.std.proofs.lemmas.Bool.{leb-true, and_parts}
+use Rattle.std.proofs.Common.{◌≡◌, ℕ, ◌+◌, ◌-◌, ◌*◌, ◌^◌, ◌<◌, ◌≤◌, true, leb, mul-le-mul, div-le_self, arith}
+use Rattle.std.proofs.lemmas.Bool.{le-leb, leb-true, and_parts, and_from}
 use Rattle.table.specs.declared.table.Table.{Table}
 use Rattle.table.specs.Accepted.{Sound}
 use Rattle.table.specs.Tables.{draft_of}
@@ -9,13 +9,17 @@ use Rattle.table.specs.Verdict.{Draft}
 use Rattle.table.proofs.Tables.{table_accepted}
 use Rattle.runs.specs.States.{known, the_task, period}
 
+-- a slot below the count is a known number
+pub known_slot : (d : Draft) (k : ℕ) → k < d.count → known d (k + 1) ≡ true
+known_slot d k h = and_from (leb 1 (k + 1)) (leb (k + 1) d.count) (le-leb 1 (k + 1) (omega arith)) (le-leb (k + 1) d.count (omega arith))
+
 pub known_low : (d : Draft) (i : ℕ) → known d i ≡ true → 1 ≤ i
 known_low d i e = leb-true 1 i (and_parts (leb 1 i) (leb i d.count) e).0
 
 pub known_high : (d : Draft) (i : ℕ) → known d i ≡ true → i ≤ d.count
 known_high d i e = leb-true i d.count (and_parts (leb 1 i) (leb i d.count) e).1
 
-known_sound : (t : Table) (i : ℕ) → known (draft_of t) i ≡ true → Sound t.scale t.factor (the_task (draft_of t) i)
+pub known_sound : (t : Table) (i : ℕ) → known (draft_of t) i ≡ true → Sound t.scale t.factor (the_task (draft_of t) i)
 known_sound t i e = (table_accepted t).each (i - 1) (omega (arith, known_low (draft_of t) i e, known_high (draft_of t) i e))
 
 pub period_small : (t : Table) (i : ℕ) → known (draft_of t) i ≡ true → period (draft_of t) i ≤ 100000

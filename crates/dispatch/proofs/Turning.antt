@@ -1,9 +1,11 @@
 -- Turns: whose they are, who is asked, and that a switch leaves one.
-use Rattle.std.proofs.Common.{◌≡◌, ℕ, Bool, true, false, cond, not, Some, None, Ok, Err, Option, sym, refl, ap, ◌∙◌, subst, arith}
+use Rattle.std.proofs.Common.{◌≡◌, ℕ, ◌^◌, ◌<◌, Bool, true, false, cond, not, [], ◌∷◌, Some, None, Ok, Err, Option, sym, refl, ap, ◌∙◌, subst, arith}
 use Rattle.std.specs.Option.{option_map}
+use Rattle.std.proofs.lemmas.Bool.{lt-ltb}
 use Rattle.tasks.specs.declared.units.Ticks.{Ticks}
 use Rattle.tasks.specs.declared.task.Criticality.{Criticality}
 use Rattle.tasks.specs.declared.task.Criticality.TheVariants.{High as HighTask, Low as LowTask}
+use Rattle.table.specs.Firsts.{first_of, unless}
 use Rattle.table.specs.Verdict.{Draft}
 use Rattle.budget.specs.Meaning.{Meaning}
 use Rattle.order.specs.declared.candidate.Candidate.{Candidate}
@@ -15,9 +17,10 @@ use Rattle.runs.specs.declared.answer.Ending.{Ending}
 use Rattle.runs.specs.declared.answer.Answer.{Answer}
 use Rattle.runs.specs.declared.call.Mark.{Mark}
 use Rattle.runs.specs.declared.refusal.TickRefusal.{TickRefusal}
+use Rattle.runs.specs.declared.refusal.TickRefusal.TheVariants.{ForeignRule}
 use Rattle.runs.specs.States.{State, the_task, rank, is_high, within}
 use Rattle.runs.specs.Choices.{Turn, turn, turn_of, turn_by, chosen}
-use Rattle.runs.specs.Ticking.{asked_by, asked, denied, switches, drops_by, kept, running_mode, running_jobs, tick_fault, outcome_by, outcome_at, outcome, Outcome, tick_result, tick_state, tick, after_tick, Asked, LetRest, Consulted, rule_after_by, RuleAfter}
+use Rattle.runs.specs.Ticking.{asked_by, asked, denied, switches, drops_by, kept, running_mode, running_jobs, tick_fault, outcome_by, outcome_at, outcome, Outcome, end_fault, tick_result, tick_state, tick, after_tick, Asked, LetRest, Consulted, rule_after_by, RuleAfter}
 use Rattle.runs.specs.Slots.{seat}
 use Rattle.dispatch.specs.declared.state.Core.{Core}
 use Rattle.dispatch.specs.declared.turn.Taken.{Taken}
@@ -25,7 +28,7 @@ use Rattle.dispatch.specs.Turns.{turn_of_taken, taken_of, first_taken, asked_of}
 use Rattle.runs.proofs.Choosing.{Seated, Turned, turn_is}
 
 -- the turn's job is pending
-turn_pending : (jobs : ℕ → Option Job) (o : Option Candidate) (t : Turn) → turn_of jobs o ≡ Some t → jobs t.number ≡ Some t.job
+pub turn_pending : (jobs : ℕ → Option Job) (o : Option Candidate) (t : Turn) → turn_of jobs o ≡ Some t → jobs t.number ≡ Some t.job
 turn_pending jobs None t e = let z : ◌≡◌ {A = ℕ} 0 1 = cc in absurd (omega arith)
 turn_pending jobs (Some c) t e = by (jobs c.number) refl e
   where
@@ -36,7 +39,7 @@ turn_pending jobs (Some c) t e = by (jobs c.number) refl e
         ap jobs (sym (ap (λ x. x.number) is)) ∙ q ∙ ap (λ x. Some x.job) is
 
 -- who is asked, where the turn in the current mode is known
-asked_is : (d : Draft) (ahead : Ahead) (jobs : ℕ → Option Job) (mode : Mode) (o : Option Turn) → turn ahead mode d jobs ≡ o → asked_by d mode (turn ahead Low d jobs) ≡ asked_by d mode o
+pub asked_is : (d : Draft) (ahead : Ahead) (jobs : ℕ → Option Job) (mode : Mode) (o : Option Turn) → turn ahead mode d jobs ≡ o → asked_by d mode (turn ahead Low d jobs) ≡ asked_by d mode o
 asked_is d ahead jobs High o e = refl
 asked_is d ahead jobs Low o e = ap (asked_by d Low) e
 
@@ -67,7 +70,7 @@ asked_first d ahead s f e =
     let is = turn_taken d (turn ahead s.mode d s.job) f e in
     asked_is d ahead s.job s.mode (Some (turn_of_taken f)) is.0 ∙ asked_taken d s.mode f is.1
 
-none_asked : (d : Draft) (mode : Mode) → asked_by d mode None ≡ None
+pub none_asked : (d : Draft) (mode : Mode) → asked_by d mode None ≡ None
 none_asked d High = refl
 none_asked d Low = refl
 
@@ -91,6 +94,9 @@ high_kept d jobs i j e h =
 
 -- an accepted tick
 
+pub no_fault : (s : State) → s.foreign ≡ false → s.clock < 2 ^ 40 → tick_fault s ≡ None
+no_fault s own early = rw (own, lt-ltb s.clock (2 ^ 40) early) refl
+
 pub outcome_is : (d : Draft) (ahead : Ahead) (says : ℕ → ℕ → Bool) (s : State) (mark : Mark) (b : Bool) (o : Option Turn) → switches d ahead says s ≡ b
     → turn ahead (running_mode b s.mode) d (running_jobs b d s.job) ≡ o
     → outcome d ahead says s mark ≡ outcome_by d s mark b (running_mode b s.mode) (running_jobs b d s.job) o
@@ -104,6 +110,9 @@ pub idle_asks : (d : Draft) (ahead : Ahead) (s : State) (m : Meaning) → turn a
 idle_asks d ahead s m e =
     let P : Option Turn → Type 0 = λ o. Asked o m m in
     subst P (sym (asked_is d ahead s.job s.mode None e ∙ none_asked d s.mode)) refl
+
+pub foreign_fault : (s : State) → s.foreign ≡ true → tick_fault s ≡ Some ForeignRule
+foreign_fault s e = ap (λ b. first_of (unless (not b) ForeignRule ∷ end_fault s ∷ [])) e
 
 module _ (d : Draft) (ahead : Ahead) (s : State) (mark : Mark) (m : Meaning) where
   -- what a refused tick does
