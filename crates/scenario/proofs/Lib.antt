@@ -7,3 +7,4 @@ pub mod Numbered
 pub mod Numerals
 pub mod Good
 pub mod Whole
+pub mod Taken

@@ -1,11 +1,27 @@
 -- The first line of a text and the first field of a line, by the bytes before the first stop.
-use Rattle.std.proofs.Common.{◌≡◌, ◌≢◌, ℕ, zero, suc, ◌+◌, ◌<◌, Bool, true, false, cond, eqb, ltb, List, [], ◌∷◌, length, get_or, take, drop, Option, Some, None, Bor, MatchOption, sym, refl, ap, ◌∙◌, inl, inr, add-one, arith}
+use Rattle.std.proofs.Common.{◌≡◌, ◌≢◌, ℕ, zero, suc, ◌+◌, ◌<◌, ◌≤◌, Bool, true, false, cond, eqb, ltb, List, [], ◌∷◌, length, get_or, take, drop, Option, Some, None, Bor, MatchOption, sym, refl, ap, ◌∙◌, inl, inr, add-one, arith}
 use Rattle.std.specs.Slice.{IsGetRangeResult}
 use lib.Dec.{leb-suc-suc}
-use Rattle.std.proofs.lemmas.List.{take_rest}
+use Rattle.std.proofs.lemmas.List.{take_rest, drop_more, drop_all}
 use Rattle.std.proofs.lemmas.Bool.{le-leb, lt-ltb, le-ltb, eq-eqb, ne_eqb}
 use Rattle.output.specs.Lines.{before, lines, fields, onto_first}
 use Rattle.scenario.specs.Left.{left}
+
+pub before_part : (s : ℕ) (bs : List ℕ) → take (length (before s bs)) bs ≡ before s bs
+before_part s [] = refl
+before_part s (b ∷ bs) = go (eqb b s) (before_part s bs)
+  where
+    go : (t : Bool) → take (length (before s bs)) bs ≡ before s bs → take (length (cond t [] (b ∷ before s bs))) (b ∷ bs) ≡ cond t [] (b ∷ before s bs)
+    go true ih = refl
+    go false ih = ap (λ xs. b ∷ xs) ih
+
+pub before_length : (s : ℕ) (bs : List ℕ) → length (before s bs) ≤ length bs
+before_length s [] = omega arith
+before_length s (b ∷ bs) = go (eqb b s) (before_length s bs)
+  where
+    go : (t : Bool) → length (before s bs) ≤ length bs → length (cond t [] (b ∷ before s bs)) ≤ suc (length bs)
+    go true ih = omega arith
+    go false ih = omega arith
 
 -- a text up to its first stop
 before_at : (s : ℕ) (bs : List ℕ) (n : ℕ) → n < length bs → get_or bs n 0 ≡ s → ((k : ℕ) → k < n → get_or bs k 0 ≢ s) → take n bs ≡ before s bs
@@ -52,6 +68,12 @@ fields_first (b ∷ bs) = go (eqb b 32) (fields_first bs)
     go true ih = rw (le-leb 1 (suc (length bs)) (omega arith))
     go false ih = rw (ih, add-one (suc (length (before 32 bs))), add-one (length (before 32 bs)), leb-suc-suc (suc (length (before 32 bs))) (length bs))
 
+pub fields_more : (bs : List ℕ) → length (before 32 bs) < length bs → fields bs ≡ before 32 bs ∷ fields (drop (length (before 32 bs) + 1) bs)
+fields_more bs h = fields_first bs ∙ rw (lt-ltb (length (before 32 bs)) (length bs) h)
+
+pub fields_last : (bs : List ℕ) → length bs ≤ length (before 32 bs) → fields bs ≡ before 32 bs ∷ []
+fields_last bs h = fields_first bs ∙ rw (le-ltb (length (before 32 bs)) (length bs) h)
+
 -- those behind it are the fields of the rest behind its space
 pub fields_behind : (bs field : List ℕ) (r : Option (Bor (List ℕ))) → field ≡ before 32 bs → IsGetRangeResult bs (length field + 1) (length bs) r → fields bs ≡ field ∷ left r
 fields_behind bs field None e h = fields_first bs ∙ elim h.0 [
@@ -61,3 +83,13 @@ fields_behind bs field None e h = fields_first bs ∙ elim h.0 [
 fields_behind bs field (Some rest) e h =
     fields_first bs
     ∙ rw (lt-ltb (length (before 32 bs)) (length bs) (omega (arith, ap length e)), ← ap length e, ← e) (ap (λ xs. field ∷ fields xs) (sym (h.0.2 ∙ take_rest bs (length field + 1))))
+
+module _ (s : ℕ) (xs : List ℕ) (i : ℕ) where
+  pub before_more : i < length xs → (get_or xs i 0 ≡ s → ⊥) → length (before s (drop i xs)) ≡ suc (length (before s (drop (i + 1) xs)))
+  before_more h ne = rw (drop_more xs i 0 h, ne_eqb (get_or xs i 0) s ne)
+
+  pub before_stop : i < length xs → get_or xs i 0 ≡ s → length (before s (drop i xs)) ≡ 0
+  before_stop h e = rw (drop_more xs i 0 h, eq-eqb (get_or xs i 0) s e)
+
+  pub before_end : length xs ≤ i → length (before s (drop i xs)) ≡ 0
+  before_end h = rw (drop_all i xs h)

@@ -51,3 +51,11 @@ module _ (text : List ℕ) (s : Place) (i : Item) (e : next text s ≡ Ok (Some 
 pub answer_same : (text : List ℕ) (s : Place) (o : Option Line) → is_some o ≡ true → shown_next (Ok o) ≡ next text s → fault_from text (moved text s (shown_next (Ok o))) ≡ fault_from text s
 answer_same text s None some is = absurd (false≢true some)
 answer_same text s (Some l) some is = fault_same text s (shown l) (sym is)
+
+-- and fewer lines are left behind it
+module _ (text : List ℕ) (s : Place) (r : Result (Option Line) Fault) (o : Option Line) (l : Line) (ok : r ≡ Ok o) (some : o ≡ Some l) (is : shown_next r ≡ next text s) where
+  item : shown_next r ≡ Ok (Some (shown l))
+  item = rw (ok, some)
+
+  pub answer_fewer : length (lines_after (shown_next r) (lines (drop s.at text))) < length (lines (drop s.at text))
+  answer_fewer = rw item (fewer text s (shown l) (sym is ∙ item))
