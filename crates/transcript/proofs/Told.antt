@@ -1,6 +1,5 @@
 -- The ages in the printed lines are those of a produced log.
 use Rattle.std.proofs.Common.{◌≡◌, ℕ, ◌+◌, ◌<◌, Bool, true, false, cond, ◌&&◌, ◌||◌, eqb, List, [], ◌∷◌, ◌++◌, Some, None, Ok, Err, Option, Result, sym, refl, ap, ◌∙◌, arith}
-use Rattle.std.proofs.Math.Bool.{and-false}
 use mathlib.Core.List.{reverse_aux}
 use Rattle.table.specs.Accepted.{Accepted}
 use Rattle.table.specs.Verdict.{Draft}
@@ -73,8 +72,12 @@ unfolding shown_age since
 arrival_told i k clock (Ok v) P log e = ap (cond (eqb k i) (Some 0)) (e ∙ sym (raised_zero (age i log)))
 arrival_told i k clock (Err x) P log e = e ∙ sym (raised_zero (age i log))
 
+never : (b : Bool) → (b && false) ≡ false
+never true = refl
+never false = refl
+
 leaves_same : (i : ℕ) (t : Option ℕ) (e : Option Ending) → (t ≡ None → e ≡ None) → (eqb (task_number t) i && ended e) ≡ (names i t && ended e)
-leaves_same i None e h = ap (λ x. eqb 0 i && ended x) (h refl) ∙ and-false (eqb 0 i)
+leaves_same i None e h = ap (λ x. eqb 0 i && ended x) (h refl) ∙ never (eqb 0 i)
 leaves_same i (Some k) e h = refl
 
 -- a switch and then a tick
