@@ -1,18 +1,19 @@
 -- What a board has still to print, before and after it reads a line.
-use Rattle.std.proofs.Common.{◌≡◌, ℕ, zero, suc, ◌<◌, List, [], ◌∷◌, ◌++◌, length, drop, Some, None, Ok, Err, Option, Result, sym, ap, ◌∙◌, subst, arith}
+use Rattle.std.proofs.Common.{◌≡◌, ℕ, zero, suc, ◌-◌, ◌<◌, List, [], ◌∷◌, ◌++◌, length, drop, Some, None, Ok, Err, Option, Result, sym, ap, ◌∙◌, subst, arith}
 use Rattle.std.proofs.lemmas.List.{append-nil}
+use Rattle.runs.specs.declared.answer.Answer.{Answer}
 use Rattle.output.specs.declared.fault.Fault.{Fault}
 use Rattle.output.specs.declared.output.OutputLine.{OutputLine}
 use Rattle.output.specs.declared.output.OutputLine.TheVariants.{Faulted}
 use Rattle.scenario.specs.declared.place.Place.{Place}
 use Rattle.scenario.specs.declared.place.Reader.{Reader}
 use Rattle.scenario.specs.Items.{Item}
-use Rattle.scenario.specs.Left.{others}
+use Rattle.scenario.specs.Left.{first, others}
 use Rattle.scenario.specs.Readers.{text_of, place_of, lines_left}
 use Rattle.output.specs.Lines.{lines}
 use Rattle.scenario.specs.Reading.{next, moved}
 use Rattle.scenario.proofs.Whole.{fewer}
-use Rattle.transcript.specs.Shows.{listed}
+use Rattle.transcript.specs.Shows.{answer_lines, listed}
 use Rattle.transcript.specs.Stages.{Stage, left_lines, left_stage}
 use Rattle.transcript.specs.Steps.{Step, step}
 use Rattle.transcript.specs.Transcripts.{transcript_from, carried_out}
@@ -20,9 +21,9 @@ use Rattle.play.specs.declared.board.Board.{Board}
 use Rattle.play.specs.declared.course.Course.{Course}
 use Rattle.play.specs.declared.course.Printed.{Printed}
 use Rattle.play.specs.Boards.{upcoming, to_come, turns_of, LeadsOn, CarriesOn, Reads}
-use Rattle.play.specs.Courses.{stage_of, result_of, Halts}
+use Rattle.play.specs.Courses.{stage_of, result_of, Goes_on, Halts}
 use Rattle.play.proofs.Reading.{by_next, from_next}
-use Rattle.play.proofs.Ticked.{upcoming_none, upcoming_halts}
+use Rattle.play.proofs.Ticked.{upcoming_none, upcoming_halts, upcoming_goes}
 
 -- a tick of those that are left
 
@@ -30,6 +31,16 @@ module _ (r : Option Reader) where
   pub left_halts : (n : ℕ) (s s' : Stage) → 0 < n → Halts s s' → upcoming r 0 s' ≡ upcoming r n s
   left_halts zero s s' h halts = absurd (omega arith)
   left_halts (suc k) s s' h halts = upcoming_halts r k s s' halts
+
+  pub left_goes : (n : ℕ) (s s' : Stage) (a : Answer) → 0 < n → Goes_on s s' a → upcoming r n s ≡ answer_lines a ++ upcoming r (n - 1) s'
+  left_goes zero s s' a h goes = absurd (omega arith)
+  left_goes (suc k) s s' a h goes =
+      let less : suc k - 1 ≡ k = omega arith in
+      upcoming_goes r k s s' a goes ∙ ap (λ m. answer_lines a ++ upcoming r m s') (sym less)
+
+-- with nothing left, nothing is to come once the board is over
+pub nothing_to_come : (left : ℕ) (s : Stage) → left ≡ 0 → upcoming None left s ≡ []
+nothing_to_come left s el = ap (λ n. upcoming None n s) el ∙ upcoming_none None s
 
 -- a line is read
 
@@ -96,7 +107,7 @@ over_behind held o left s er el =
     ∙ append-nil (listed held)
 
 module _ (b b' : Board) (r : Reader) (held : b.held ≡ None) (left : b.left ≡ 0) (there : Some r ≡ b.reader) where
-  rest_to_come : transcript_from (text_of r) (place_of r) (stage_of b.course) ≡ to_come b
+  pub rest_to_come : transcript_from (text_of r) (place_of r) (stage_of b.course) ≡ to_come b
   rest_to_come =
       sym (upcoming_none (Some r) (stage_of b.course))
       ∙ ap (λ n. upcoming (Some r) n (stage_of b.course)) (sym left)
@@ -118,3 +129,11 @@ module _ (b b' : Board) (r : Reader) (held : b.held ≡ None) (left : b.left ≡
   -- comes to the end of its text or to a fault
   pub comes_to_end : listed b'.held ≡ transcript_from (text_of r) (place_of r) (stage_of b.course) → b'.left ≡ 0 → b'.reader ≡ None → Reads b b'
   comes_to_end last el er = record { same = over_behind b'.held b'.reader b'.left (stage_of b'.course) er el ∙ last ∙ rest_to_come; fewer = omega (arith, ap turns_of there, ap turns_of er) }
+
+-- the first line and the others
+
+pub line_first : (ls rest : List OutputLine) (l : OutputLine) → ls ≡ l ∷ rest → (Some l ≡ first ls) × (rest ≡ others ls)
+line_first ls rest l e = (ap first (sym e), ap others (sym e))
+
+pub none_first : (ls : List OutputLine) → ls ≡ [] → (None ≡ first ls) × (ls ≡ others ls)
+none_first ls e = (ap first (sym e), e ∙ ap others (sym e))

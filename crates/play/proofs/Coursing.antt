@@ -1,5 +1,5 @@
 -- What each line does to a course.
-use Rattle.std.proofs.Common.{◌≡◌, ℕ, zero, suc, ◌+◌, ◌^◌, ◌<◌, ◌≤◌, Bool, true, false, List, length, Some, None, Err, Option, Result, sym, refl, ap, ◌∙◌, subst, arith, lit<}
+use Rattle.std.proofs.Common.{◌≡◌, ℕ, zero, suc, ◌+◌, ◌^◌, ◌<◌, ◌≤◌, Bool, true, false, List, length, Some, None, Err, Option, Result, sym, refl, ap, ◌∙◌, subst, arith, lit<, lit≤}
 use Rattle.tasks.specs.declared.refusal.TableRefusal.{TableRefusal}
 use Rattle.tasks.specs.declared.task.Factor.{Factor}
 use Rattle.tasks.specs.declared.task.Task.{Task}
@@ -84,6 +84,48 @@ near_verdict d few =
 
 pub verdict_near : (d : Draft) (o : Option TableRefusal) → d.count ≤ 33 → o ≡ verdict d → BlamesNear o
 verdict_near d o few is = subst BlamesNear (sym is) (near_verdict d few)
+
+-- and at most 40
+
+abbrev Small : Option TableRefusal → Type 0
+Small None = Unit {0}
+Small (Some e) = line_of_task (task_of e) ≤ 40
+
+small_or : (x y : Option TableRefusal) → Small x → Small y → Small (or_else x y)
+small_or None y sx sy = sy
+small_or (Some e) y sx sy = sx
+
+small_unless : (b : Bool) (e : TableRefusal) → line_of_task (task_of e) ≤ 40 → Small (unless b e)
+small_unless true e h = tt
+small_unless false e h = h
+
+small_below : (n : ℕ) (f : ℕ → Option TableRefusal) → ((k : ℕ) → k < n → Small (f k)) → Small (first_below n f)
+unfolding first_below
+small_below zero f each = tt
+small_below (suc n) f each = small_or (first_below n f) (f n) (small_below n f (λ k l. each k (omega (arith, l)))) (each n (omega arith))
+
+small_deadline : (f : Option Factor) (i : ℕ) (t : Task) → i + 1 ≤ 40 → Small (deadline_fault f i t)
+small_deadline None i t h = tt
+small_deadline (Some f) i t h = small_unless _ _ h
+
+small_task : (h : Shares) (f : Option Factor) (i : ℕ) (t : Task) → i + 1 ≤ 40 → Small (task_fault h f i t)
+small_task h f i t l =
+    small_or (period_fault h i t) _ (small_unless _ _ l)
+    (small_or (deadline_fault f i t) _ (small_deadline f i t l)
+    (small_or (service_fault i t) None (small_unless _ _ l) tt))
+
+small_verdict : (d : Draft) → d.count ≤ 33 → Small (verdict d)
+small_verdict d few =
+    small_or (count_fault d.count) _ (small_unless _ _ (lit≤ tt))
+    (small_or (scale_fault d.scale) _ (small_unless _ _ (lit≤ tt))
+    (small_or (factor_fault d.factor) _ (small_unless _ _ (lit≤ tt))
+    (small_or (total_fault d.total) _ (small_unless _ _ (lit≤ tt))
+    (small_or (tasks_fault d.scale (Some d.factor) d.count d.task) _ (small_below d.count _ (λ k l. small_task d.scale (Some d.factor) (k + 1) (d.task k) (omega (arith, l, few))))
+    (small_or (low_fault (tests_of d)) _ (small_unless _ _ (lit≤ tt))
+    (small_or (high_fault (tests_of d)) None (small_unless _ _ (lit≤ tt)) tt))))))
+
+pub small_line : (d : Draft) (e : TableRefusal) → d.count ≤ 33 → Some e ≡ verdict d → line_of_task (task_of e) < 2 ^ 32
+small_line d e few is = omega (arith, subst Small (sym is) (small_verdict d few))
 
 -- an event finds the dispatcher made
 pub started_same : (n : ℕ) (f : Shown → Result Step Fault) (s : Stage) → on_show n f (started s) ≡ on_show n f s

@@ -1,4 +1,5 @@
 pub mod Outlined
+pub mod Amounts
 pub mod Showings
 pub mod Coursing
 pub mod Ticked

@@ -1,14 +1,15 @@
 -- What a tick leaves of those that are still to run.
-use Rattle.std.proofs.Common.{◌≡◌, ℕ, suc, [], ◌++◌, Some, None, Ok, Err, Option, Result, sym, refl, ap, ◌∙◌, subst, arith}
+use Rattle.std.proofs.Common.{◌≡◌, ℕ, suc, List, [], ◌∷◌, ◌++◌, Some, None, Ok, Err, Option, Result, sym, refl, ap, ◌∙◌, subst, append_assoc, arith}
 use Rattle.std.specs.Result.{result_ok}
 use Rattle.order.specs.Ties.{by_number}
 use Rattle.runs.specs.declared.answer.Answer.{Answer}
 use Rattle.runs.specs.declared.refusal.TickRefusal.{TickRefusal}
 use Rattle.runs.specs.Programs.{asked_meaning, rested_meaning, meaning_by}
 use Rattle.runs.specs.Ticking.{tick_fault, tick_result, tick_state, outcome, asked}
+use Rattle.output.specs.declared.output.OutputLine.{OutputLine}
 use Rattle.scenario.specs.declared.place.Reader.{Reader}
 use Rattle.transcript.specs.Policies.{by_policy}
-use Rattle.transcript.specs.Shows.{Show, mark, ticking, after_ticking, run_lines, run_show, lines_by, show_by}
+use Rattle.transcript.specs.Shows.{Show, mark, ticking, after_ticking, run_lines, run_show, lines_by, show_by, answer_lines, listed, switch_line, tick_line}
 use Rattle.transcript.specs.Stages.{Stage, opening, tabling, ruled, showing, left_lines, left_stage}
 use Rattle.play.specs.Boards.{read_from, upcoming}
 use Rattle.play.specs.Courses.{Goes_on, Halts, TicksOn}
@@ -39,6 +40,18 @@ module _ (w : Show) where
   halts : (e : TickRefusal) → Err e ≡ ticking w → Halts (showing w) (showing (after_ticking w))
   unfolding run_lines run_show
   halts e is = record { lines = λ k. ap (λ r. lines_by r (run_lines k (after_ticking w))) (sym is); stage = λ k. ap (λ r. showing (show_by r w (run_show k (after_ticking w)))) (sym is) ∙ ap showing (sym (refused_same w e (sym is))) }
+
+pub goes_at : (s : Stage) (w w' : Show) (a : Answer) → showing w ≡ s → w' ≡ after_ticking w → Ok a ≡ ticking w → Goes_on s (showing w') a
+goes_at s w w' a es ew is =
+    let P : Stage → Type 0 = λ x. Goes_on x (showing w') a in
+    let Q : Show → Type 0 = λ x. Goes_on (showing w) (showing x) a in
+    subst P es (subst Q (sym ew) (goes w a is))
+
+pub halts_at : (s : Stage) (w w' : Show) (e : TickRefusal) → showing w ≡ s → w' ≡ after_ticking w → Err e ≡ ticking w → Halts s (showing w')
+halts_at s w w' e es ew is =
+    let P : Stage → Type 0 = λ x. Halts x (showing w') in
+    let Q : Show → Type 0 = λ x. Halts (showing w) (showing x) in
+    subst P es (subst Q (sym ew) (halts w e is))
 
 pub ticks_on : (s : Stage) (w w' : Show) (r : Result Answer TickRefusal) (o : Option Answer) → showing w ≡ s → w' ≡ after_ticking w → r ≡ ticking w → o ≡ result_ok r → TicksOn o s (showing w')
 ticks_on s w w' r o es ew is eo =
@@ -76,3 +89,17 @@ module _ (r : Option Reader) where
       upcoming_none s'
       ∙ ap (read_from r) (sym (h.stage k))
       ∙ ap (λ ls. ls ++ read_from r (left_stage (suc k) s)) (sym (h.lines k))
+
+  pub upcoming_goes : (k : ℕ) (s s' : Stage) (a : Answer) → Goes_on s s' a → upcoming r (suc k) s ≡ answer_lines a ++ upcoming r k s'
+  upcoming_goes k s s' a g =
+      ap (λ ls. ls ++ read_from r (left_stage (suc k) s)) (g.lines k)
+      ∙ ap (λ x. (answer_lines a ++ left_lines k s') ++ read_from r x) (g.stage k)
+      ∙ append_assoc (answer_lines a) (left_lines k s') (read_from r (left_stage k s'))
+
+-- the lines of an answer, one after the other
+
+pub switch_first : (a : Answer) (x : OutputLine) (rest : List OutputLine) → Some x ≡ switch_line a → answer_lines a ++ rest ≡ x ∷ (tick_line a ∷ rest)
+switch_first a x rest e = ap (λ o. (listed o ++ (tick_line a ∷ [])) ++ rest) (sym e)
+
+pub tick_first : (a : Answer) (rest : List OutputLine) → None ≡ switch_line a → answer_lines a ++ rest ≡ tick_line a ∷ rest
+tick_first a rest e = ap (λ o. (listed o ++ (tick_line a ∷ [])) ++ rest) (sym e)
