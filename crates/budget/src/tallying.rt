@@ -33,6 +33,7 @@ impl Weights {
     pub(crate) fn new(table: &Table) -> Weights
         ensures weights { (i : ℕ) → weight_in result.by_slot i ≡ rule_weight (draft_of table.now) i }
         ensures total { result.total ≡ (draft_of table.now).total }
+        ensures count { result.count ≡ (draft_of table.now).count }
     {
         Weights {
             count: table.count() as usize,
@@ -69,6 +70,7 @@ impl Tally {
         ensures weights { (i : ℕ) → weights_of result i ≡ rule_weight (draft_of table.now) i }
         ensures total { result.weights.total ≡ (draft_of table.now).total }
         ensures longest { (i : ℕ) → longest_of result i ≡ 0 }
+        ensures count { result.weights.count ≡ (draft_of table.now).count }
     {
         Tally {
             weights: Weights::new(table),
