@@ -34,6 +34,8 @@ impl<'a> Iterator for Fields<'a> {
 
     ghost remaining = { item_count to_come };
 
+    // A call of its own would keep each field in memory.
+    #[inline(always)]
     fn next(&mut self) -> Option<&'a [u8]> {
         let rest = self.rest?;
         let field = before(rest, b' ');

@@ -8,8 +8,8 @@ use Rattle.scenario.proofs.Good.{read_good}
 use Rattle.scenario.proofs.Reading.{next_line, lines_at}
 use Rattle.scenario.proofs.place.Reader.next_line.Goals as goal
 
-pub returns-in_err-read-clause-item : goal.returns-in_err-read-clause-item
-returns-in_err-read-clause-item c =
+pub returns-in-Err-clause-item : goal.returns-in-Err-clause-item
+returns-in-Err-clause-item c =
     let s = c.args.self.now in
     let e = next_line s.text.now s.place (omega arith) (omega arith) in
     grind (arith, common_steps)
@@ -29,4 +29,4 @@ returns-clause-lines c =
 pub returns-clause-good : goal.returns-clause-good
 returns-clause-good c =
     let s = c.args.self.now in
-    read_good s.place.phase (before 10 (drop s.place.at s.text.now)) (shown c.in_ok-read.read) (grind (arith, common_steps))
+    read_good s.place.phase (before 10 (drop s.place.at s.text.now)) (shown c.in-Ok.read) (grind (arith, common_steps))
