@@ -23,8 +23,15 @@ pub record Stands (xs out : List ℕ) (at : ℕ) (W : List ℕ) : Type 0 where
 pub stands_first : {xs out : List ℕ} {at : ℕ} (w : List ℕ) → out ≡ over 0 w xs → at ≡ 0 + length w → Stands xs out at w
 stands_first {xs} w o e = record { bytes = o ∙ over_first w xs; place = omega arith }
 
+pub stands_nothing : {xs : List ℕ} {at : ℕ} → at ≡ 0 → Stands xs xs at []
+stands_nothing e = record { bytes = refl; place = e }
+
 pub stands_more : {xs out : List ℕ} {at : ℕ} {W : List ℕ} {out' : List ℕ} {at' : ℕ} (w : List ℕ) → Stands xs out at W → out' ≡ over at w out → at' ≡ at + length w → Stands xs out' at' (W ++ w)
 stands_more {xs} {out} {at} {W} w s o e = record { bytes = o ∙ rw (s.place, s.bytes) (over_page W w xs); place = omega (arith, length-append W w, s.place) }
+
+-- all of it, in other words
+pub page_of : {xs out : List ℕ} {at : ℕ} {W : List ℕ} {w : List ℕ} → Stands xs out at W → W ≡ w → out ≡ page w xs
+page_of {xs} s e = s.bytes ∙ ap (λ w. page w xs) e
 
 -- one more byte behind w
 pub set_behind : (at b : ℕ) (w xs : List ℕ) → at + length w < length xs → set (over at w xs) (at + length w) b ≡ over at (w ++ (b ∷ [])) xs

@@ -1,5 +1,5 @@
 ghost use Rattle.std.specs.Prelude.{◌≡◌, ◌<◌, ◌≤◌, [], ◌∷◌, length, Ok, Err, decimal};
-ghost use Rattle.output.specs.Output.{refused_number, layer_letter, mode_letter, end_letter, closed, fault_words, line_of, written_length, written_bytes};
+ghost use Rattle.output.specs.Output.{refused_number, layer_letter, mode_letter, end_letter, closed, page, fault_words, line_of, written_length, written_bytes};
 
 use super::fault::{Fault, Layer};
 use super::line_buffer::LineBuffer;
@@ -89,61 +89,98 @@ fn end_letter(ending: Option<Ending>) -> u8
 
 // A clock, a letter and a number.
 #[tactic(auto, using(crate::proofs::Widths::widths))]
-fn event_line(clock: Ticks, letter: u8, number: u32) -> LineBuffer
-    ensures { result ≡ closed (decimal clock.0 ∷ (letter ∷ []) ∷ decimal number ∷ []) }
+fn put_event(line: &mut LineBuffer, clock: Ticks, letter: u8, number: u32)
+    requires empty { line.old.len ≡ 0 }
+    requires room { 40 ≤ length line.old.out.now }
+    ensures same_buffer { line.new.out.ghost_name ≡ line.old.out.ghost_name }
+    ensures behind { line.new.len ≡ length (closed (decimal clock.0 ∷ (letter ∷ []) ∷ decimal number ∷ [])) }
+    ensures page { line.new.out.now ≡ page (closed (decimal clock.0 ∷ (letter ∷ []) ∷ decimal number ∷ [])) line.old.out.now }
+    ensures short { line.new.len ≤ 40 }
 {
-    let mut line = LineBuffer::new();
-    line.number(clock.0, b' ');
-    line.field(&[letter], b' ');
-    line.number(u64::from(number), b'\n');
-    line
+    line.number(clock.0);
+    line.byte(b' ');
+    line.byte(letter);
+    line.byte(b' ');
+    line.number(u64::from(number));
+    line.byte(b'\n');
 }
 
 // A tick. An idle one is written with task 0.
 #[tactic(auto, using(crate::proofs::Widths::widths))]
-fn tick_line(clock: Ticks, task: Option<u32>, mode: Mode, ending: Option<Ending>) -> LineBuffer
-    ensures { result ≡ line_of (OutputLine.Ticked clock task mode ending) }
+fn put_tick(
+    line: &mut LineBuffer,
+    clock: Ticks,
+    task: Option<u32>,
+    mode: Mode,
+    ending: Option<Ending>,
+)
+    requires empty { line.old.len ≡ 0 }
+    requires room { 40 ≤ length line.old.out.now }
+    ensures same_buffer { line.new.out.ghost_name ≡ line.old.out.ghost_name }
+    ensures behind { line.new.len ≡ length (line_of (OutputLine.Ticked clock task mode ending)) }
+    ensures page { line.new.out.now ≡ page (line_of (OutputLine.Ticked clock task mode ending)) line.old.out.now }
+    ensures short { line.new.len ≤ 40 }
 {
-    let mut line = LineBuffer::new();
-    line.number(clock.0, b' ');
-    line.number(u64::from(task.unwrap_or(0)), b' ');
-    line.field(&[mode_letter(mode)], b' ');
-    line.field(&[end_letter(ending)], b'\n');
-    line
+    // before the digits, so that the compiler can join them with what chose the mode and the ending
+    let mode = mode_letter(mode);
+    let ending = end_letter(ending);
+    line.number(clock.0);
+    line.byte(b' ');
+    line.number(u64::from(task.unwrap_or(0)));
+    line.byte(b' ');
+    line.byte(mode);
+    line.byte(b' ');
+    line.byte(ending);
+    line.byte(b'\n');
 }
 
 #[tactic(auto, using(crate::proofs::Widths::widths))]
-fn fault_line(fault: Fault) -> LineBuffer
-    ensures { result ≡ closed (fault_words fault) }
+fn put_fault(line: &mut LineBuffer, fault: Fault)
+    requires empty { line.old.len ≡ 0 }
+    requires room { 40 ≤ length line.old.out.now }
+    ensures same_buffer { line.new.out.ghost_name ≡ line.old.out.ghost_name }
+    ensures behind { line.new.len ≡ length (closed (fault_words fault)) }
+    ensures page { line.new.out.now ≡ page (closed (fault_words fault)) line.old.out.now }
+    ensures short { line.new.len ≤ 40 }
 {
-    let mut line = LineBuffer::new();
-    line.field(b"fault", b' ');
-    line.number(u64::from(fault.line), b' ');
-    line.field(&[fault.layer.letter()], b' ');
-    line.number(u64::from(fault.number), b'\n');
-    line
+    line.word(b"fault ");
+    line.number(u64::from(fault.line));
+    line.byte(b' ');
+    line.byte(fault.layer.letter());
+    line.byte(b' ');
+    line.number(u64::from(fault.number));
+    line.byte(b'\n');
 }
 
-impl From<OutputLine> for LineBuffer {
-    ghost from_gives = { λ line bytes. bytes ≡ line_of line };
-
-    fn from(line: OutputLine) -> LineBuffer {
-        match line {
-            OutputLine::Arrived { clock, task } => event_line(clock, b'A', task),
-            OutputLine::Refused { clock, number } => event_line(clock, b'!', u32::from(number)),
-            OutputLine::Switched { clock, dropped } => event_line(clock, b'X', dropped),
+impl OutputLine {
+    // Makes the line at the front of a buffer.
+    fn put(&self, line: &mut LineBuffer)
+        requires empty { line.old.len ≡ 0 }
+        requires room { 40 ≤ length line.old.out.now }
+        ensures same_buffer { line.new.out.ghost_name ≡ line.old.out.ghost_name }
+        ensures behind { line.new.len ≡ length (line_of self.now) }
+        ensures page { line.new.out.now ≡ page (line_of self.now) line.old.out.now }
+        ensures short { line.new.len ≤ 40 }
+    {
+        match *self {
+            OutputLine::Arrived { clock, task } => put_event(line, clock, b'A', task),
+            OutputLine::Refused { clock, number } => put_event(
+                line,
+                clock,
+                b'!',
+                u32::from(number),
+            ),
+            OutputLine::Switched { clock, dropped } => put_event(line, clock, b'X', dropped),
             OutputLine::Ticked {
                 clock,
                 task,
                 mode,
                 ending,
-            } => tick_line(clock, task, mode, ending),
-            OutputLine::Faulted(fault) => fault_line(fault),
+            } => put_tick(line, clock, task, mode, ending),
+            OutputLine::Faulted(fault) => put_fault(line, fault),
         }
     }
-}
 
-impl OutputLine {
     // Writes the line at the start of the buffer, and answers its length. A buffer under 40 bytes is refused and stays as it was.
     pub fn write(&self, out: &mut [u8]) -> Result<usize, WriteRefusal>
         ensures length { result ≡ written_length self.now out.old }
@@ -153,9 +190,8 @@ impl OutputLine {
         if out.len() < 40 {
             return Err(WriteRefusal::Short);
         }
-        let line = LineBuffer::from(*self);
-        let bytes = line.as_slice();
-        out[..bytes.len()].copy_from_slice(bytes);
-        Ok(bytes.len())
+        let mut line = LineBuffer::new(out);
+        self.put(&mut line);
+        Ok(line.len())
     }
 }
