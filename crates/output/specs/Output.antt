@@ -46,7 +46,7 @@ abbrev pub words : OutputLine → List (List ℕ)
 words (Arrived clock task) = decimal clock.0 ∷ codes "A" ∷ decimal task ∷ []
 words (Refused clock number) = decimal clock.0 ∷ codes "!" ∷ decimal number ∷ []
 words (Switched clock dropped) = decimal clock.0 ∷ codes "X" ∷ decimal dropped ∷ []
-words (Ticked clock task mode ending) = decimal clock.0 ∷ decimal (task_number task) ∷ (mode_letter mode ∷ []) ∷ (end_letter ending ∷ []) ∷ []
+words (Ticked task mode ending clock) = decimal clock.0 ∷ decimal (task_number task) ∷ (mode_letter mode ∷ []) ∷ (end_letter ending ∷ []) ∷ []
 words (Faulted f) = fault_words f
 
 -- one space between fields, and byte 10 at the end

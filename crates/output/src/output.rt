@@ -31,15 +31,18 @@ pub enum OutputLine {
         clock: Ticks,
         dropped: u32,
     },
-    // a tick, with the task that ran, if it was not idle, and how its job ended, if it did
+    // a tick, with the task that ran, if it was not idle, and how its job ended, if it did; the clock stands last, since the others lie beside the case's tag
     Ticked {
-        clock: Ticks,
         task: Option<u32>,
         mode: Mode,
         ending: Option<Ending>,
+        clock: Ticks,
     },
     Faulted(Fault),
 }
+
+// A line that is kept takes no more.
+const _: () = prove!(size_of::<OutputLine>() == 24);
 
 impl WriteRefusal {
     // The refusal's number, by a method as each refusal has it.
@@ -117,8 +120,8 @@ fn put_tick(
     requires empty { line.old.len ≡ 0 }
     requires room { 40 ≤ length line.old.out.now }
     ensures same_buffer { line.new.out.ghost_name ≡ line.old.out.ghost_name }
-    ensures behind { line.new.len ≡ length (line_of (OutputLine.Ticked clock task mode ending)) }
-    ensures page { line.new.out.now ≡ page (line_of (OutputLine.Ticked clock task mode ending)) line.old.out.now }
+    ensures behind { line.new.len ≡ length (line_of (OutputLine.Ticked task mode ending clock)) }
+    ensures page { line.new.out.now ≡ page (line_of (OutputLine.Ticked task mode ending clock)) line.old.out.now }
     ensures short { line.new.len ≤ 40 }
 {
     // before the digits, so that the compiler can join them with what chose the mode and the ending

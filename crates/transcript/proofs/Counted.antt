@@ -18,7 +18,7 @@ sooner_behind [] xs ys h = h
 sooner_behind (Arrived clock i ∷ first) xs ys h = sooner_behind first xs ys h
 sooner_behind (Refused clock number ∷ first) xs ys h = sooner_behind first xs ys h
 sooner_behind (Switched clock dropped ∷ first) xs ys h = omega arith
-sooner_behind (Ticked clock i mode ending ∷ first) xs ys h = let rest = sooner_behind first xs ys h in omega arith
+sooner_behind (Ticked i mode ending clock ∷ first) xs ys h = let rest = sooner_behind first xs ys h in omega arith
 sooner_behind (Faulted f ∷ first) xs ys h = sooner_behind first xs ys h
 
 pub fault_sooner : (f : Fault) (ys : List OutputLine) → Sooner (fault_lines f) ys

@@ -14,7 +14,7 @@ abbrev pub age_after : ℕ → OutputLine → Option ℕ → Option ℕ
 age_after i (Arrived clock k) age = cond (k == i) (Some 0) age
 age_after i (Refused clock number) age = age
 age_after i (Switched clock dropped) age = cond (in_mask dropped i) None age
-age_after i (Ticked clock task mode ending) age = cond (task_number task == i && ended ending) None (raised_by 1 age)
+age_after i (Ticked task mode ending clock) age = cond (task_number task == i && ended ending) None (raised_by 1 age)
 age_after i (Faulted f) age = age
 
 -- the age of task i in printed lines, the latest first

@@ -15,7 +15,7 @@ ticks_before_switch [] = 0
 ticks_before_switch (Arrived clock i ∷ ls) = ticks_before_switch ls
 ticks_before_switch (Refused clock number ∷ ls) = ticks_before_switch ls
 ticks_before_switch (Switched clock dropped ∷ ls) = 0
-ticks_before_switch (Ticked clock i mode ending ∷ ls) = ticks_before_switch ls + 1
+ticks_before_switch (Ticked i mode ending clock ∷ ls) = ticks_before_switch ls + 1
 ticks_before_switch (Faulted f ∷ ls) = ticks_before_switch ls
 
 -- the text with another line n, counted from 1; each line is ended by byte 10

@@ -76,7 +76,7 @@ abbrev pub switch_line : Answer → Option OutputLine
 switch_line a = cond a.switched (Some (Switched a.clock a.dropped)) None
 
 abbrev pub tick_line : Answer → OutputLine
-tick_line a = Ticked a.clock a.task a.mode a.ending
+tick_line a = Ticked a.task a.mode a.ending a.clock
 
 abbrev pub listed : Option OutputLine → List OutputLine
 listed None = []
