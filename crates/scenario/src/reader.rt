@@ -72,6 +72,7 @@ pub fn check_text(text: &[u8]) -> Result<(), Fault>
     ensures { refusal result ≡ text_fault text.now }
 {
     let mut reader = Reader::new(text);
-    while reader.next_line()?.is_some() {}
+    // Not by `is_some`: the line would be put together once more.
+    while let Some(_) = reader.next_line()? {}
     Ok(())
 }

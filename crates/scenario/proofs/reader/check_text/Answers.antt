@@ -1,4 +1,4 @@
-use Rattle.std.proofs.Common.{sym, ap, ◌∙◌}
+use Rattle.std.proofs.Common.{is_some, ap, ◌∙◌}
 use Rattle.scenario.specs.Readers.{text_of, place_of}
 use Rattle.scenario.specs.Whole.{fault_from}
 use Rattle.scenario.proofs.Whole.{answer_same}
@@ -8,7 +8,7 @@ pub loop-preserved : goal.loop-preserved
 loop-preserved c =
     let r = c.loop.reader in
     let answer = c.in_ok-next_line.ensures in
-    let same = answer_same (text_of r) (place_of r) c.in_ok-next_line.field-0 (sym c.if-is_some.ensures) answer.item in (
+    let same = answer_same (text_of r) (place_of r) c.in_ok-next_line.field-0 (ap is_some c.in-Some.is) answer.item in (
       answer.text ∙ c.loop.invariant.0,
       rw (← c.loop.invariant.0) (ap (fault_from (text_of r)) answer.place ∙ same ∙ rw c.loop.invariant.0 c.loop.invariant.1),
     )
